@@ -1,11 +1,11 @@
 -- How steps of a disk follow on each other.
-use Rattle.std.proofs.Common.{◌≡◌, ◌⊎◌, inl, inr, ⊎_elim, ℕ, List, take, refl, sym, ◌∙◌, ap, subst}
+use Rattle.std.proofs.Common.{◌≡◌, ◌⊎◌, inl, inr, ⊎_elim, ℕ, List, [], take, refl, sym, ◌∙◌, ap, subst}
 use Rattle.std.specs.Prelude.{⊤}
 use Rattle.std.proofs.lemmas.Bool.Decides.{eqb_tells}
 use Rattle.fw_disk.specs.declared.name.Name.{Name}
 use Rattle.fw_disk.specs.Disk.{Entry, absent, plain, other, Disk, ChangesOnly, IsNameless}
 use Rattle.fw_disk.specs.declared.name.Name.TheVariants.{Main, New}
-use Rattle.fw_disk.specs.Calls.{NoName, NoFile, Shortens, MayRename, MayRemove}
+use Rattle.fw_disk.specs.Calls.{NoName, NoFile, Shortens, MayCreate, MayMake, MayRename, MayRemove}
 use Rattle.fw_disk.specs.Ours.{IsLeftOver, Takes, Starts, Fills, Names, Replaces, MayTakeBeside}
 
 pub only_refl : (N : Name → Type 0) (M : ℕ → Type 0) (x : Disk) → ChangesOnly N M x x
@@ -24,6 +24,9 @@ only_more N N' M M' x y names files c = record {
   contents = λ n no. c.contents n (λ is. no (files n is));
   others = c.others;
 }
+
+pub remove_same : (name : Name) (x : Disk) → MayRemove name x x
+remove_same name x = record { gone = inl refl; rest = only_refl (λ m. m ≡ name) NoFile x }
 
 -- an entry is one thing
 pub same_plain : (a b : ℕ) → plain a ≡ plain b → a ≡ b
@@ -80,6 +83,18 @@ module _ (ours : List ℕ → Type 0) (fits : Type 0) (name : Name) (may : ℕ �
         (λ had. f.left_over (starts fit));
   }
 
+  -- a file without bytes is made, or none
+  pub takes_created : (n : ℕ) → may n → ours [] → (x y : Disk) → MayCreate name n x y → Takes ours fits name may x y
+  takes_created n taken small x y created = ⊎_elim
+      (λ same. subst (λ (d : Disk). Takes ours fits name may x d) (sym same) (takes_refl x))
+      (λ c. record {
+        only = only_more (λ m. m ≡ name) (λ m. m ≡ name) (λ m. m ≡ n) may x y (λ m is. is) (λ m is. subst (λ (k : ℕ). may k) (sym is) taken) c.rest;
+        left_over = λ fit had m is.
+            let this : n ≡ m = same_plain n m (sym c.named ∙ is) in
+            subst (λ (k : ℕ). ours (y.bytes k)) this (subst (λ (l : List ℕ). ours l) (sym c.empty) small);
+      })
+      created
+
   -- the name is taken away
   pub takes_removed : (x y : Disk) → MayRemove name x y → Takes ours fits name may x y
   takes_removed x y r = record {
@@ -90,8 +105,8 @@ module _ (ours : List ℕ → Type 0) (fits : Type 0) (name : Name) (may : ℕ �
         r.gone;
   }
 
-pub remove_same : (name : Name) (x : Disk) → MayRemove name x x
-remove_same name x = record { gone = inl refl; rest = only_refl (λ m. m ≡ name) NoFile x }
+  pub takes_made : (n : ℕ) → may n → ours [] → (x y : Disk) → MayMake name n x y → Takes ours fits name may x y
+  takes_made n taken small x y made = takes_trans x made.0 y (takes_created n taken small x made.0 made.1) (takes_removed made.0 y made.2)
 
 main_kept : (y z : Disk) → MayRemove New y z → z.entry Main ≡ y.entry Main
 main_kept y z r = r.rest.entries Main (λ is. not_new is)
@@ -107,11 +122,12 @@ renamed_or_removed e x y z m r = record {
 
 -- a file that has its bytes, and the name FILE.new, gets the name FILE
 pub names_refl : (n : ℕ) (bytes : List ℕ) (x y : Disk) → y ≡ x → Names n bytes x y
-names_refl n bytes x y is = subst (λ (d : Disk). Names n bytes x d) (sym is) (record { main = inl refl; only = only_refl (λ k. (k ≡ Main) ⊎ (k ≡ New)) NoFile x })
+names_refl n bytes x y is = subst (λ (d : Disk). Names n bytes x d) (sym is) (record { main = inl refl; beside = inl refl; only = only_refl (λ k. (k ≡ Main) ⊎ (k ≡ New)) NoFile x })
 
 pub names_renamed : (n : ℕ) (bytes : List ℕ) (e : Entry) → e ≡ plain n → (x y z : Disk) → y ≡ x → y.bytes n ≡ bytes → MayRename New Main e y z → Names n bytes x z
 names_renamed n bytes e is_file x y z same has m = subst (λ (d : Disk). Names n bytes d z) same (record {
   main = ⊎_elim (λ was. inl was) (λ is. inr (record { named = is ∙ is_file; contents = m.rest.contents n (λ no. no) ∙ has })) m.named;
+  beside = m.gone;
   only = only_more (λ k. (k ≡ New) ⊎ (k ≡ Main)) (λ k. (k ≡ Main) ⊎ (k ≡ New)) NoFile NoFile y z (λ k is. ⊎_elim (λ a. inr a) (λ b. inl b) is) (λ k no. no) m.rest;
 })
 

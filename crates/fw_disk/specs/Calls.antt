@@ -68,3 +68,7 @@ pub record Removes (name : Name) (old new : Disk) : Type 0 where
 pub record MayRemove (name : Name) (old new : Disk) : Type 0 where
   pub gone : (new.entry name ≡ old.entry name) ⊎ (new.entry name ≡ absent)
   pub rest : ChangesOnly (λ m. m ≡ name) NoFile old new
+
+-- a file without bytes gets the name, which nothing had, and may lose it again
+abbrev pub MayMake : Name → ℕ → Disk → Disk → Type 0
+MayMake name n old new = (made : Disk) × MayCreate name n old made × MayRemove name made new

@@ -46,9 +46,10 @@ pub record Fills (ours : List ℕ → Type 0) (first n : ℕ) (bytes : List ℕ)
   pub only : ChangesOnly NoName (λ m. m ≡ n) old new
   pub left_over : Starts ours first bytes → ours (new.bytes n)
 
--- FILE is as before, or names this file with these bytes. Nothing else changes, except FILE.new.
+-- FILE is as before, or names this file with these bytes, and FILE.new is as before, or absent. Nothing else changes.
 pub record Names (n : ℕ) (bytes : List ℕ) (old new : Disk) : Type 0 where
   pub main : (new.entry Main ≡ old.entry Main) ⊎ IsNamed Main n bytes new
+  pub beside : (new.entry New ≡ old.entry New) ⊎ (new.entry New ≡ absent)
   pub only : ChangesOnly (λ m. (m ≡ Main) ⊎ (m ≡ New)) NoFile old new
 
 -- FILE has the old file as it was, or another with all of these bytes. Nothing else changes, except FILE.new and what may be taken there.

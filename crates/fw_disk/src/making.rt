@@ -1,8 +1,8 @@
 //! A file that is made under another name.
 
-ghost use Rattle.std.specs.Prelude.{◌≡◌, ◌⊎◌, ⊤, ℕ, [], IsTrue, IfOk, IsErrOf};
-ghost use Rattle.fw_disk.specs.Disk.{plain, absent, Goes, IsSynced};
-ghost use Rattle.fw_disk.specs.Calls.{MayCreate, MayRemove};
+ghost use Rattle.std.specs.Prelude.{◌≡◌, ◌⊎◌, ⊤, ℕ, [], IsTrue, IfOk, OnOk, IsErrOf};
+ghost use Rattle.fw_disk.specs.Disk.{plain, absent, IsAlone, Goes, IsSynced};
+ghost use Rattle.fw_disk.specs.Calls.{Stays, MayMake, MayRemove};
 ghost use Rattle.fw_disk.specs.Ours.{IsOurs, MayTake, Takes, IsNamed};
 
 use crate::cause::Cause;
@@ -40,23 +40,39 @@ pub fn begin<F: Folder, K: Kind>(folder: &mut F, name: Name, kind: &K) -> Result
     }
 }
 
-/// Makes a file where nothing has the name.
+/// Makes a file where nothing has the name. If that fails later, the name is taken away again.
 fn make<F: Folder>(folder: &mut F, name: Name) -> Result<F::File, Cause>
     ensures fresh { IsTrue (F.seen folder.old).honest
         → IfOk result (λ file. ((F.seen folder.old).disk.entry name ≡ absent) × (F.number file ≡ (F.seen folder.old).disk.next)) }
     ensures empty { IsTrue (F.seen folder.old).honest → IfOk result (λ file. IsNamed name (F.number file) [] (F.seen folder.new).disk) }
     ensures synced { IsTrue (F.seen folder.old).honest → IfOk result (λ file. IsSynced (F.number file) (F.seen folder.new)) }
-    ensures goes { Goes (MayCreate name (F.seen folder.old).disk.next) (F.seen folder.old) (F.seen folder.new) }
+    ensures goes { Goes (MayMake name (F.seen folder.old).disk.next) (F.seen folder.old) (F.seen folder.new) }
     ensures alone { IsTrue (F.seen folder.old).honest → ¬ IsErrOf result Cause.NotAlone }
     ensures never { ¬ IsErrOf result Cause.Foreign }
 {
     let file = folder.create(name)?;
+    match settle(folder, name, &file) {
+        Ok(()) => Ok(file),
+        Err(cause) => {
+            abandon(folder, name, &file);
+            Err(cause)
+        }
+    }
+}
+
+/// Syncs a file that was made, if it has its name alone.
+fn settle<F: Folder>(folder: &mut F, name: Name, file: &F::File) -> Result<(), Cause>
+    ensures synced { IsTrue (F.seen folder.old).honest → OnOk result (IsSynced (F.number file.now) (F.seen folder.new)) }
+    ensures goes { Goes Stays (F.seen folder.old) (F.seen folder.new) }
+    ensures alone { IsTrue (F.seen folder.old).honest → IsAlone (F.seen folder.old).disk name (F.number file.now)
+        → ¬ IsErrOf result Cause.NotAlone }
+    ensures never { ¬ IsErrOf result Cause.Foreign }
+{
     // Who had the lock before may have taken the file, and given it another name.
-    if !folder.is_alone(name, &file)? {
+    if !folder.is_alone(name, file)? {
         return Err(Cause::NotAlone);
     }
-    folder.sync(&file)?;
-    Ok(file)
+    folder.sync(file)
 }
 
 /// Takes what was left of a making, and takes its bytes away. That is synced: else what is written next and some of them might be left

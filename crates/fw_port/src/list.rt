@@ -89,7 +89,9 @@ impl<'a, R, Report: Drop, L> ListPort<'a, R, Report, L> {
     }
 
     /// The time of the port, in microseconds: a millisecond more after each receive.
-    pub fn time(&self) -> u64 {
+    pub fn time(&self) -> u64
+        ensures { result ≡ self.now.time }
+    {
         self.time
     }
 }

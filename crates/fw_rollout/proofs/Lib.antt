@@ -4,6 +4,7 @@ pub mod Queueing
 pub mod Turning
 pub mod Moving
 pub mod Settling
+pub mod Resending
 pub mod Dues
 pub mod Placing
 pub mod Listings

@@ -42,6 +42,10 @@ pub at_err : {A E X : Type 0} (r : Result A E) → X → OnErr r X
 at_err (Ok a) x = tt
 at_err (Err e) x = x
 
+pub both_ok : {A E X Y Z : Type 0} (r : Result A E) → (X → Y → Z) → OnOk r X → OnOk r Y → OnOk r Z
+both_ok (Ok a) f x y = f x y
+both_ok (Err e) f x y = tt
+
 some_none : {X : Type 0} (x : X) → Some x ≡ None → ⊥
 some_none x e = cc
 

@@ -62,13 +62,13 @@ settle_here now (Some was) c n link next gone h is to over up =
     )
 
 -- what became of a link at a place that waited
-record Goes (now place : ℕ) (link : Link) (cur new : Schedule) : Type 0 where
+pub record Goes (now place : ℕ) (link : Link) (cur new : Schedule) : Type 0 where
   pub next : Link
   pub gone : ℕ
   pub up : IsGivenUp now link gone next
   pub links : links_of new ≡ slice_set (links_of cur) place next
 
-goes : (now place : ℕ) (link : Link) (cur new : Schedule) → slice_get (links_of cur) place ≡ Some link → GivesUp place now cur new → Goes now place link cur new
+pub goes : (now place : ℕ) (link : Link) (cur new : Schedule) → slice_get (links_of cur) place ≡ Some link → GivesUp place now cur new → Goes now place link cur new
 goes now place link cur new was up =
     let it = rw was at up.there in
     record { next = it.0; gone = it.1.0; up = it.1.1; links = it.2 }

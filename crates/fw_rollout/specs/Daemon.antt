@@ -21,7 +21,7 @@ use Rattle.fw_rollout.specs.Early.{IsAnswerOf}
 use Rattle.fw_rollout.specs.Counting.{CountsTold, counted_of}
 use Rattle.fw_rollout.specs.Leading.{HasLed, IsNotedIn, Leader, Leads, MayLead}
 use Rattle.fw_rollout.specs.Link.{IsReadyBy, after, out_by}
-use Rattle.fw_rollout.specs.Schedule.{Answers, IsDueAt, IsSchedule, links_of, listed_of, lives_of}
+use Rattle.fw_rollout.specs.Schedule.{Answers, IsDueAt, IsSchedule, links_of, listed_of, lives_of, resent_in}
 
 -- no number and no address stands twice
 abbrev pub IsList : List Listed → Type 0
@@ -88,6 +88,10 @@ pub record TakesAnswer {D : Type 0} (now : ℕ) (from : SocketAddr) (datagram : 
 abbrev pub out_at : {D : Type 0} → ℕ → HeadDaemon D → ℕ
 out_at now daemon = sum_by (λ (link : Link). out_by now link) (links_of daemon.schedule)
 
+-- the rows of how many meters are ticked again at this time since no answer came, or not all of them
+abbrev pub resent_at : {D : Type 0} → ℕ → HeadDaemon D → ℕ
+resent_at now daemon = resent_in now (links_of daemon.schedule)
+
 -- the rows that ended and are not on the device yet
 abbrev pub ended_of : {D : Type 0} → HeadDaemon D → List Ended
 ended_of daemon = daemon.ended.items
@@ -148,6 +152,10 @@ hold = 100000
 pub record IsSaveDue (now since : ℕ) (leader : Leader) : Type 0 where
   pub some : leader.unsaved ≢ []
   pub due : All (λ (at : Listed). row_of leader.head.rows at.meter ≡ None) leader.meters ⊎ (since + hold ≤ now)
+
+-- no marks wait that are due at this time
+abbrev pub NoneDue : {D : Type 0} → JournalDevice.Ghosts D → ℕ → HeadDaemon D → Type 0
+NoneDue J now daemon = (leader : Leader) → IsLed J.honest J.contents J.may_leave daemon leader → ¬ IsSaveDue now (since_of daemon) leader
 
 -- nothing is about to be sent or reported
 pub record Rests (leader : Leader) : Type 0 where

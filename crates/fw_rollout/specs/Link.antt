@@ -49,6 +49,15 @@ abbrev pub IsReadyBy : ℕ → Link → Type 0
 IsReadyBy now link =
     IsReady link ⊎ ((is_expired now link ≡ true) × ((link.is_heard ≡ true) ⊎ (after link.sent_at link.patience ≤ now)))
 
+-- Once the time is over until which was waited, the row is ticked again since no answer came, or not all of them: the meter didn't pause, and
+-- its patience is over if nothing at all came.
+abbrev pub lacks_answer : ℕ → Link → Bool
+lacks_answer now link =
+    if is_paused link.turn then false else (if link.is_heard then true else nat_le (after link.sent_at link.patience) now)
+
+abbrev pub is_resent : ℕ → Link → Bool
+is_resent now link = if is_expired now link then lacks_answer now link else false
+
 -- how many datagrams are out at this time
 abbrev pub out_by : ℕ → Link → ℕ
 out_by now link = if is_expired now link then 0 else link.out

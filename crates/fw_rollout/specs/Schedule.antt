@@ -1,8 +1,9 @@
 -- For private clauses alone: the links of all meters, which of them may be ticked now, and what each call makes of them.
-use Rattle.std.specs.Prelude.{◌≡◌, ◌⊎◌, ◌↔◌, ℕ, ◌<◌, ◌≤◌, ◌==◌, ◌^◌, Bool, true, false, List, [], ◌∷◌, ◌++◌, map, Option, Some, None, Contains, MatchOption, slice_get, slice_set, sum_by, count_by}
+use Rattle.std.specs.Prelude.{◌≡◌, ◌⊎◌, ◌↔◌, ℕ, ◌<◌, ◌≤◌, ◌==◌, ◌^◌, Bool, true, false, List, [], ◌∷◌, ◌++◌, map, Option, Some, None, Contains, MatchOption, slice_get, slice_set, sum_by, count_by, if◌then◌else◌}
 use Rattle.std.specs.declared.net.socket_addr.SocketAddr.{SocketAddr}
-use Rattle.fw_rollout.specs.Link.{IsAnswered, IsGivenUp, IsLiveLink, IsNewLink, IsReady, IsSent, is_expired, until_of}
+use Rattle.fw_rollout.specs.Link.{IsAnswered, IsGivenUp, IsLiveLink, IsNewLink, IsReady, IsSent, is_expired, is_resent, lacks_answer, until_of}
 use Rattle.fw_rollout.specs.Timing.{most_out}
+use Rattle.fw_rollout.specs.Counting.{one_more}
 use Rattle.fw_rollout.specs.declared.link.Answer.{Answer}
 use Rattle.fw_rollout.specs.declared.link.Link.{Link}
 use Rattle.fw_rollout.specs.declared.link.Listed.{Listed}
@@ -59,6 +60,24 @@ IsAwaited turns.Ready = ⊥
 IsAwaited (turns.Awaited until) = Unit {0}
 IsAwaited (turns.Silent until) = ⊥
 IsAwaited (turns.Paused until) = ⊥
+
+-- the rows of how many links are ticked again at this time since no answer came
+abbrev pub resent_in : ℕ → List Link → ℕ
+resent_in now links = count_by (λ (link : Link). is_resent now link) links
+
+-- one more is counted where a link waits no more and didn't pause
+abbrev pub resends_after : Bool → Option ℕ → ℕ → ℕ
+resends_after true until n = n
+resends_after false None n = one_more n
+resends_after false (Some until) n = n
+
+-- so many are counted once what was waited for is given up
+abbrev pub with_resend : ℕ → Link → ℕ → ℕ
+with_resend now link n = if lacks_answer now link then one_more n else n
+
+abbrev pub CountsResend : ℕ → ℕ → Schedule → Schedule → Type 0
+CountsResend place now old new =
+    MatchOption (slice_get (links_of old) place) (new.resends ≡ old.resends) (λ link. new.resends ≡ with_resend now link old.resends)
 
 -- how often a place stands in a list of places
 abbrev pub times : ℕ → List ℕ → ℕ

@@ -37,6 +37,7 @@ ghost use Rattle.fw_rollout.specs.Timing.{HasRoom, most_out};
 ghost use Rattle.fw_rollout.specs.Stopping.{IsSaveStop};
 ghost use Rattle.fw_rollout.specs.Counting.{
   CountsJust,
+  IsMore,
   counted_of,
   greatest,
   none_counted,
@@ -66,6 +67,7 @@ ghost use Rattle.fw_rollout.specs.Daemon.{
   out_at,
   out_of,
   queue_of,
+  resent_at,
   since_after,
   since_of,
   since_with,
@@ -227,6 +229,10 @@ impl<D: JournalDevice + Drop> HeadDaemon<D> {
         ensures counts_err { OnErr result (counted_of self.new ≡ counted_of self.old) }
         ensures since { since_of self.new ≡ since_of self.old }
 
+        // A row that is ticked again since no answer came is counted as a resend.
+        ensures resends { (leader : Leader) → IsLed D.honest D.contents D.may_leave self.old leader
+            → OnOk result (IsMore (counts_of self.old).resends (resent_at now self.old) (counts_of self.new).resends) }
+
         // Nothing is sent only where no meter may be asked at this time, or too much is out.
         ensures none { (leader : Leader) → IsLed D.honest D.contents D.may_leave self.old leader
             → IfOk result (λ r. IfNone r (((place : ℕ) → ¬ IsDueBy now self.old place) ⊎ ¬ HasRoom (out_at now self.old) (flight_of self.old))) }
@@ -276,6 +282,7 @@ impl<D: JournalDevice + Drop> HeadDaemon<D> {
         ensures counts { IfOk result (λ what. counted_of self.new ≡ with_heard what (counted_of self.old)) }
         ensures counts_err { OnErr result (counted_of self.new
             ≡ record (counted_of self.old) { received = one_more (counted_of self.old).received }) }
+        ensures resends { OnOk result ((counts_of self.new).resends ≡ (counts_of self.old).resends) }
 
         // Memory is refused for a datagram of a listed meter alone, which has a live row.
         ensures listed { (leader : Leader) → IsLed D.honest D.contents D.may_leave self.old leader
@@ -349,6 +356,7 @@ impl<D: JournalDevice + Drop> HeadDaemon<D> {
             ≡ ended_of self.old ++ record { campaign = campaign; meter = meter; ending = ending } ∷ []) }
         ensures since { since_of self.new ≡ since_with now (ended_of self.old) (since_of self.old) }
         ensures counts { counted_of self.new ≡ counted_of self.old }
+        ensures resends { self.new.schedule.resends ≡ self.old.schedule.resends }
         ensures meters { EndsMeter place self.old.schedule self.new.schedule }
         ensures schedule { IsSchedule self.old.schedule → IsSchedule self.new.schedule }
         ensures memory { IfErr result (λ stop. stop ≡ Stop.OutOfMemory) }
@@ -387,6 +395,7 @@ impl<D: JournalDevice + Drop> HeadDaemon<D> {
         ensures emptied { OnOk result (ended_of self.new ≡ []) }
         ensures counts { IfOk result (λ ended. CountsJust ended.items (counted_of self.old) (counted_of self.new)) }
         ensures counts_err { OnErr result (counted_of self.new ≡ counted_of self.old) }
+        ensures resends { (counts_of self.new).resends ≡ (counts_of self.old).resends }
         ensures since { since_of self.new ≡ since_of self.old }
         ensures stops { IfErr result IsSaveStop }
 

@@ -17,6 +17,8 @@ use std::sync::Wait;
 
 /// A port in memory reports what it is told.
 impl<'a, R: Wait, L: Rule<Ended>> HeadPort for ListPort<'a, R, Ended, L> {
+    ghost time = { λ p. p.time };
+
     fn now(&self) -> u64 {
         self.time()
     }

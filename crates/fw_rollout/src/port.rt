@@ -1,6 +1,6 @@
 //! Ports of head ends: where their datagrams come from and go to, and where it is reported which rows ended.
 
-ghost use Rattle.std.specs.Prelude.{◌≡◌, ◌∷◌, List, IsTrue};
+ghost use Rattle.std.specs.Prelude.{◌≡◌, ◌∷◌, ℕ, List, IsTrue};
 ghost use Rattle.fw_port.specs.Acts.{told};
 ghost use Rattle.fw_rollout.specs.Acts.{Act};
 
@@ -9,8 +9,12 @@ use fw_port::Port;
 
 /// Where the datagrams of a head end come from and go to, and where it reports rows: a port with a clock.
 pub trait HeadPort: Port<Ended> {
-    /// The microseconds since some moment. Nothing is known of them.
-    fn now(&self) -> u64;
+    /// The time, in microseconds since some moment.
+    ghost time: { Self → ℕ } = { λ _. 0 };
+
+    /// The time of an honest port. Of any other nothing is known.
+    fn now(&self) -> u64
+        ensures { IsTrue (Self.honest self.now) → result ≡ Self.time self.now };
 
     /// Reports a row that ended, which has to be legal after all that was done. A report that can't be made is lost.
     fn tell(&mut self, ended: Ended)

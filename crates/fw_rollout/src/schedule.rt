@@ -24,6 +24,7 @@ ghost use Rattle.std.specs.Option.{option_map};
 ghost use Rattle.fw_rollout.specs.Schedule.{
   Adds,
   Answers,
+  CountsResend,
   EndsAt,
   EndsMeter,
   GivesUp,
@@ -43,8 +44,11 @@ ghost use Rattle.fw_rollout.specs.Schedule.{
   links_of,
   listed_of,
   lives_of,
+  resends_after,
+  resent_in,
 };
 ghost use Rattle.fw_rollout.specs.declared.link.Link.{Link as TheLink};
+ghost use Rattle.fw_rollout.specs.Counting.{IsMore};
 ghost use Rattle.fw_rollout.specs.Timing.{HasRoom, max_tick};
 
 use crate::link::{Answer, Link, Listed};
@@ -159,6 +163,7 @@ impl Schedule {
         ensures due { IfOk result (λ r. IfSome r (IsDueAt self.new)) }
         ensures first { IfOk result (λ r. IfSome r (IsFirst self.new)) }
         ensures none { IfOk result (λ r. IfNone r ((self.new.ready.items ≡ []) ⊎ ¬ HasRoom self.new.out self.new.timing.flight)) }
+        ensures resends { IsSchedule self.old → OnOk result (IsMore self.old.resends (resent_in now (links_of self.old)) self.new.resends) }
         ensures room { IfOk result (λ r. IfSome r (λ place. HasRoom self.new.out self.new.timing.flight)) }
         ensures timing { OnOk result (self.new.timing ≡ self.old.timing) }
         ensures settles { IsSchedule self.old → OnOk result (Settles now self.old self.new) }
@@ -194,6 +199,7 @@ impl Schedule {
     fn give_up(&mut self, now: u64) -> Result<(), AllocError>
         ensures timing { OnOk result (self.new.timing ≡ self.old.timing) }
         ensures settles { IsSchedule self.old → OnOk result (Settles now self.old self.new) }
+        ensures resends { IsSchedule self.old → OnOk result (IsMore self.old.resends (resent_in now (links_of self.old)) self.new.resends) }
         ensures same { IsSchedule self.old → OnOk result (SameMeters self.old self.new) }
         ensures schedule { IsSchedule self.old → OnOk result (IsSchedule self.new) }
         ensures live { IsSchedule self.old → OnErr result (¬ All (λ live. live ≡ false) (lives_of self.old)) }
@@ -214,6 +220,7 @@ impl Schedule {
     /// Gives up what was waited for at a place.
     fn give_up_at(&mut self, place: usize, now: u64) -> Result<(), AllocError>
         ensures given_up { OnOk result (GivesUp place now self.old self.new) }
+        ensures resends { OnOk result (CountsResend place now self.old self.new) }
         ensures timing { OnOk result (self.new.timing ≡ self.old.timing) }
         ensures same { IsLiveAt self.old place → OnOk result (SameMeters self.old self.new) }
         ensures schedule { (until : ℕ) → IsSchedule self.old → IsWaitingAt (links_of self.old) place until → OnOk result (IsSchedule self.new) }
@@ -233,9 +240,12 @@ impl Schedule {
 
     /// Counts a row that is ticked again since no answer came: one that didn't pause, and waits no more.
     fn count_resend(&mut self, was_paused: bool, until: Option<u64>)
-        ensures { self.new ≡ record self.old { resends = self.new.resends } }
+        ensures { self.new ≡ record self.old { resends = resends_after was_paused until self.old.resends } }
     {
-        if !was_paused && until.is_none() {
+        if was_paused {
+            return;
+        }
+        if until.is_none() {
             self.resends = self.resends.saturating_add(1);
         }
     }
@@ -259,6 +269,7 @@ impl Schedule {
         ensures sent { OnOk result (Sends place now count self.old self.new) }
         ensures timing { OnOk result (self.new.timing ≡ self.old.timing) }
         ensures out { OnOk result (self.new.out ≤ self.old.out + count) }
+        ensures resends { OnOk result (self.new.resends ≡ self.old.resends) }
         ensures same { IsDueAt self.old place → OnOk result (SameMeters self.old self.new) }
         ensures schedule { IsSchedule self.old → IsDueAt self.old place → IsFirst self.old place → HasRoom self.old.out self.old.timing.flight
             → count ≤ max_tick → OnOk result (IsSchedule self.new) }
@@ -286,6 +297,7 @@ impl Schedule {
         answer: Answer,
     ) -> Result<(), AllocError>
         ensures answered { OnOk result (Answers place now answer self.old self.new) }
+        ensures resends { OnOk result (self.new.resends ≡ self.old.resends) }
         ensures same { IsLiveAt self.old place → OnOk result (SameMeters self.old self.new) }
         ensures schedule { IsSchedule self.old → IsLiveAt self.old place → OnOk result (IsSchedule self.new) }
     {
@@ -306,6 +318,7 @@ impl Schedule {
     /// The row of the link at this place ended.
     pub(crate) fn end(&mut self, place: usize)
         ensures ended { EndsAt place self.old self.new }
+        ensures resends { self.new.resends ≡ self.old.resends }
         ensures meters { EndsMeter place self.old self.new }
         ensures schedule { IsSchedule self.old → IsSchedule self.new }
     {

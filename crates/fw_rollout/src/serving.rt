@@ -6,7 +6,7 @@ ghost use Rattle.fw_head.specs.Row.{bytes_of};
 ghost use Rattle.fw_rollout.specs.Acts.{Act};
 ghost use Rattle.fw_rollout.specs.Counting.{told_in};
 ghost use Rattle.fw_rollout.specs.Leading.{IsAboutToSend, IsAboutToTell, Leader, Leads, MayLead};
-ghost use Rattle.fw_rollout.specs.Daemon.{IsLed, IsOver, LeadsOver, MayLeadOver};
+ghost use Rattle.fw_rollout.specs.Daemon.{IsLed, IsOver, LeadsOver, MayLeadOver, NoneDue};
 
 use crate::daemon::{Counts, HeadDaemon};
 use crate::ended::Ended;
@@ -39,6 +39,9 @@ pub fn step_head<P: HeadPort, D: JournalDevice + Drop>(
 ) -> Result<(), Stop>
     requires begins { MayLeadOver P.Port D.JournalDevice port.old daemon.old }
     ensures leads { LeadsOver P.Port D.JournalDevice port.old daemon.old result port.new daemon.new }
+
+    // By the time of the port, no marks wait that are due.
+    ensures saves { IsTrue (P.honest port.old) → OnOk result (NoneDue D.JournalDevice (P.time port.new) daemon.new) }
 {
     let mut now = port.now();
     let mut buffer = [0u8; MAX_RECEIVED];
@@ -55,6 +58,9 @@ fn step_with<P: HeadPort, D: JournalDevice + Drop>(
 ) -> Result<(), Stop>
     requires begins { MayLeadOver P.Port D.JournalDevice port.old daemon.old }
     ensures leads { LeadsOver P.Port D.JournalDevice port.old daemon.old result port.new daemon.new }
+
+    // By the time of the port, no marks wait that are due.
+    ensures saves { IsTrue (P.honest port.old) → OnOk result (NoneDue D.JournalDevice (P.time port.new) daemon.new) }
 {
     let patience = send_due(port, daemon, *now)?;
     receive(port, daemon, patience, now, buffer)?;
@@ -104,6 +110,7 @@ fn receive<P: HeadPort, D: JournalDevice + Drop>(
 ) -> Result<(), Stop>
     requires begins { MayLeadOver P.Port D.JournalDevice port.old daemon.old }
     ensures leads { LeadsOver P.Port D.JournalDevice port.old daemon.old result port.new daemon.new }
+    ensures time { IsTrue (P.honest port.old) → OnOk result (now.new ≡ P.time port.new) }
 {
     let Some(arrival) = port.receive(patience, buffer)? else {
         *now = port.now();
@@ -122,7 +129,10 @@ fn tell_saved<P: HeadPort, D: JournalDevice + Drop>(
     now: &mut u64,
 ) -> Result<(), Stop>
     requires begins { MayLeadOver P.Port D.JournalDevice port.old daemon.old }
+    requires time { IsTrue (P.honest port.old) → now.old ≡ P.time port.old }
     ensures leads { LeadsOver P.Port D.JournalDevice port.old daemon.old result port.new daemon.new }
+    ensures saves { OnOk result (NoneDue D.JournalDevice now.new daemon.new) }
+    ensures time { IsTrue (P.honest port.old) → OnOk result (now.new ≡ P.time port.new) }
 {
     if !daemon.is_save_due(*now) {
         return Ok(());

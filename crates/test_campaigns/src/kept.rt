@@ -21,7 +21,7 @@ use test_tables::{Reads, Words, each_line, named, present};
 /// - `cancel SERIAL`, `commit` and `compact`
 /// - `take TEXT`: the bytes of this text that a commit returns, where they wait for it, and how many wait after it
 /// - `memory`: the book in memory
-/// - `left`: the book that a power cut leaves
+/// - `left`: the book that a power cut leaves, and `read`, the one that is read
 /// - `begun METER`: the APDUs that the head end of this book sends to this meter at first
 /// - `records`: how many bytes there are up to the end of the records that a power cut leaves, and these
 impl Reads for Subject<KeptHead<MemoryDevice>> {
@@ -46,6 +46,7 @@ impl Reads for Subject<KeptHead<MemoryDevice>> {
                 alloc,
                 read_text(alloc, head.device().disk().synced())?.as_str(),
             ),
+            "read" => named_text(alloc, read_text(alloc, head.device().bytes())?.as_str()),
             "begun" => begun_text(alloc, head.device().disk().synced(), words.number()?),
             "records" => records_text(alloc, head.device().disk().synced()),
             _ => Err("no call of a kept head end has this name".into()),
@@ -226,8 +227,53 @@ const KEPT: &str = "
     compact            => done
 ";
 
+/// `CALLS TORN CALL`: what comes of this call, where meters 2 and 1 of campaign 1 were marked and wait, and the device fails after so many calls,
+/// the last one torn or not; what comes of a commit after it; the book in memory; and the one that is read.
+#[derive(Clone, Copy)]
+struct Cuts;
+
+impl Reads for Cuts {
+    fn told(&mut self, alloc: Global, what: &str) -> Result<String, Fail> {
+        let mut words = Words::new(what);
+        let (calls, torn): (u64, u8) = words.read()?;
+        let mut new = Subject(new_head(alloc)?);
+        let _opened = new.told(alloc, "open 1 5 abc 1 2 3")?;
+        let mut device = device_of(alloc, new.0.device().bytes())?;
+        // an opening makes three calls
+        device.fuse(calls.saturating_add(3), torn);
+        let mut keeper = MemoryKeeper::new(alloc);
+        let mut head = match KeptHead::open(alloc, head(7)?, width()?, device, &mut keeper) {
+            Ok(head) => Subject(head),
+            Err((refusal, _)) => return Ok(refusal.to_string(alloc)?),
+        };
+        for mark in ["hear 2 none", "hear 1 four enabled runs"] {
+            let _ended = head.told(alloc, mark)?;
+        }
+        let mut text = head.told(alloc, words.rest())?;
+        for look in ["commit", "memory", "read"] {
+            text.push(' ')?;
+            text.push_str(head.told(alloc, look)?.as_str())?;
+        }
+        Ok(text)
+    }
+}
+
+/// An opening is there with all marks that waited, or none of it is. A book that is compacted is there as it was, or with these marks.
+const CUTS: &str = "
+    0 1 open 2 0 abc 4 => BookFault BookFault marked one
+    1 1 open 2 0 abc 4 => BookFault BookFault marked one
+    2 0 open 2 0 abc 4 => BookFault BookFault marked one
+    2 1 open 2 0 abc 4 => BookFault BookFault marked two
+    3 1 open 2 0 abc 4 => BookFault BookFault marked two
+    4 1 open 2 0 abc 4 => done done two two
+    0 1 compact        => NotReplaced BookFault marked one
+    1 1 compact        => BookFault BookFault marked marked
+    2 1 compact        => done done marked marked
+";
+
 #[test]
 fn a_kept_head_end_outlives_each_call(rt: HostRuntime) -> Result<(), Fail> {
     let alloc = rt.alloc();
-    each_line(alloc, &mut Subject(new_head(alloc)?), KEPT)
+    each_line(alloc, &mut Subject(new_head(alloc)?), KEPT)?;
+    each_line(alloc, &mut Cuts, CUTS)
 }

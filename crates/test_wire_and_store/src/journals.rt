@@ -30,17 +30,15 @@ fn told_of<D: JournalDevice + Drop>(
     alloc: Global,
     opened: &Result<(Journal<D>, Vec<Vec<u8>>), (JournalError, D)>,
 ) -> Result<String, Fail> {
-    match opened {
-        Ok((_, records)) => records_text(alloc, records.as_slice()),
-        Err((refusal, _)) => Ok(refusal.to_string(alloc)?),
-    }
-}
-
-fn records_text(alloc: Global, records: &[Vec<u8>]) -> Result<String, Fail> {
     let mut text = String::new(alloc);
-    for record in records {
-        text.push_str(str::from_utf8(record.as_slice())?)?;
-        text.push('|')?;
+    match opened {
+        Ok((_, records)) => {
+            for record in records {
+                text.push_str(str::from_utf8(record.as_slice())?)?;
+                text.push('|')?;
+            }
+        }
+        Err((refusal, _)) => text.push_str(refusal.to_string(alloc)?.as_str())?,
     }
     Ok(text)
 }
@@ -64,7 +62,6 @@ impl Drop for Stepped {
 ///
 /// - `append RECORD`, `commit`, or `new`: another new journal takes its place
 /// - `size`: how many bytes it has up to its shut gate; `bytes`: all bytes of its device; `again`: what is read where that is opened again
-/// - `turned AT`: what is read of its bytes where one is turned
 /// - `kept AT..`, `refused AT..`: what opening its bytes returns where those at these places are turned, by a keeper that keeps what it is
 ///   given, or refuses it. Then how many records it was given, in how many bytes, and how many the device has then
 /// - `cut CALLS TORN`: on a device with its bytes that fails after CALLS calls, and leaves this byte: what opening it returns, and two
@@ -90,12 +87,11 @@ impl Reads for Stepped {
             "size" => shown(alloc, &self.0.size()),
             "bytes" => digits(alloc, self.0.device().bytes()),
             "again" => read_text(alloc, self.0.device().bytes()),
-            "turned" => turned_text(alloc, self.0.device().bytes(), words.number()? as usize),
             "kept" => kept_text(alloc, self.0.device().bytes(), words.rest(), false),
             "refused" => kept_text(alloc, self.0.device().bytes(), words.rest(), true),
             "left" => fates_text(alloc, words.rest()),
-            "opened" => opened_text(alloc, &hex::decode(alloc, words.rest())?),
-            "created" => created_text(alloc, &hex::decode(alloc, words.rest())?),
+            "opened" => device_text(alloc, &hex::decode(alloc, words.rest())?, false),
+            "created" => device_text(alloc, &hex::decode(alloc, words.rest())?, true),
             word => failing_text(alloc, word, self.0.device().bytes(), words),
         }
     }
@@ -130,25 +126,25 @@ const KEPT: &str = "
 ";
 
 /// A turned gate ends the journal; any other byte is refused, with the offset of its record's gate.
-const TURNED: &str = "
+const TURNED: &str = r#"
     new        =>
     append one => Ok(())
     append two => Ok(())
     commit     => Ok(())
-    turned 0   => BadBook 0
-    turned 3   => BadBook 0
-    turned 4   =>
-    turned 5   => BadBook 4
-    turned 8   => BadBook 4
-    turned 9   => BadBook 4
-    turned 11  => BadBook 4
-    turned 12  => BadBook 4
-    turned 43  => BadBook 4
-    turned 44  => one|
-    turned 45  => BadBook 44
-    turned 83  => BadBook 44
-    turned 84  => one|two|
-";
+    kept 0     => ("BadBook 0", 0, 0, 85)
+    kept 3     => ("BadBook 0", 0, 0, 85)
+    kept 4     => ("", 2, 81, 5)
+    kept 5     => ("BadBook 4", 0, 0, 85)
+    kept 8     => ("BadBook 4", 0, 0, 85)
+    kept 9     => ("BadBook 4", 0, 0, 85)
+    kept 11    => ("BadBook 4", 0, 0, 85)
+    kept 12    => ("BadBook 4", 0, 0, 85)
+    kept 43    => ("BadBook 4", 0, 0, 85)
+    kept 44    => ("one|", 1, 41, 45)
+    kept 45    => ("BadBook 44", 0, 0, 85)
+    kept 83    => ("BadBook 44", 0, 0, 85)
+    kept 84    => ("one|two|", 0, 0, 85)
+"#;
 
 /// If whole records stand behind a shut gate, whatever their own gates are, what stands from it on is given to the keeper before it is
 /// cut off. If the keeper refuses it, it stays. The last byte is a shut gate behind all of them.
@@ -192,12 +188,6 @@ const CREATED: &str = r#"
     created 00         => ("NotEmpty", "00")
     created 46574a3100 => ("NotEmpty", "46574a3100")
 "#;
-
-fn turned_text(alloc: Global, bytes: &[u8], at: usize) -> Result<String, Fail> {
-    let mut bytes = bytes.to_vec(alloc)?;
-    *present(bytes.get_mut(at), "no such byte")? ^= 8;
-    read_text(alloc, bytes.as_slice())
-}
 
 /// A keeper that notes what it was given last, and refuses it if it is full.
 #[derive(Drop)]
@@ -261,17 +251,22 @@ fn given_text(
     )
 }
 
-fn opened_text(alloc: Global, bytes: &[u8]) -> Result<String, Fail> {
+/// What opening these bytes returns, or a new journal on them, and the bytes of the device then.
+fn device_text(alloc: Global, bytes: &[u8], is_new: bool) -> Result<String, Fail> {
     let device = MemoryDevice::new(alloc, bytes.to_vec(alloc)?)?;
-    device_text(alloc, &open(alloc, device))
+    let opened = if is_new {
+        created(alloc, device)
+    } else {
+        open(alloc, device)
+    };
+    let told = told_of(alloc, &opened)?;
+    let bytes = digits(alloc, device_of(&opened).bytes())?;
+    shown(alloc, &(told.as_str(), bytes.as_str()))
 }
 
-fn created_text(alloc: Global, bytes: &[u8]) -> Result<String, Fail> {
-    let device = MemoryDevice::new(alloc, bytes.to_vec(alloc)?)?;
-    match Journal::create(alloc, device) {
-        Ok(journal) => device_text(alloc, &Ok((journal, Vec::new(alloc)))),
-        Err(refused) => device_text(alloc, &Err(refused)),
-    }
+fn created(alloc: Global, device: MemoryDevice) -> Opened {
+    let journal = Journal::create(alloc, device)?;
+    Ok((journal, Vec::new(alloc)))
 }
 
 fn device_of(opened: &Opened) -> &MemoryDevice {
@@ -279,13 +274,6 @@ fn device_of(opened: &Opened) -> &MemoryDevice {
         Ok((journal, _)) => journal.device(),
         Err((_, device)) => device,
     }
-}
-
-/// What is returned, and the bytes of the device then.
-fn device_text(alloc: Global, opened: &Opened) -> Result<String, Fail> {
-    let told = told_of(alloc, opened)?;
-    let bytes = digits(alloc, device_of(opened).bytes())?;
-    shown(alloc, &(told.as_str(), bytes.as_str()))
 }
 
 /// What a power cut leaves where both changes have these fates, and none of `-`.
@@ -296,15 +284,11 @@ fn fates_text(alloc: Global, what: &str) -> Result<String, Fail> {
             fates.push(hex::decode(alloc, fate)?)?;
         }
     }
-    left_by(alloc, &fates)
-}
-
-fn left_by(alloc: Global, fates: &[Vec<u8>]) -> Result<String, Fail> {
     let bytes = [0x00, 0x11, 0x22, 0x33].to_vec(alloc)?;
     let mut device = Kept(MemoryDevice::new(alloc, bytes)?);
     device.0.write_at(2, &[0xAA, 0xBB, 0xCC, 0xDD])?;
     device.0.shorten(5)?;
-    digits(alloc, &device.0.disk().cut(alloc, fates)?)
+    digits(alloc, &device.0.disk().cut(alloc, &fates)?)
 }
 
 /// Any bytes stand in the range of a write that isn't synced, some or all of those past the old end.
@@ -324,6 +308,9 @@ const ONE: &str = "
     append one => Ok(())
     commit     => Ok(())
 ";
+
+/// What is read once `two` and `three` are committed behind it.
+const GROUP: &str = "one|two|three|";
 
 /// A cut leaves all of a group or nothing.
 const CUTS: &str = r#"
@@ -378,7 +365,7 @@ fn cut_text(alloc: Global, opened: &mut Opened) -> Result<String, Fail> {
     let told = told_of(alloc, opened)?;
     match opened {
         Ok((journal, _)) => committed(alloc, told.as_str(), journal),
-        Err((_, device)) => shown(alloc, &(told.as_str(), left(alloc, device)?)),
+        Err((_, device)) => shown(alloc, &(told.as_str(), left(alloc, device, GROUP)?)),
     }
 }
 
@@ -390,31 +377,29 @@ fn committed(
     journal.append(alloc, b"two")?;
     journal.append(alloc, b"three")?;
     let (answer, again) = (journal.commit(), journal.commit());
-    let left = left(alloc, journal.device())?;
+    let left = left(alloc, journal.device(), GROUP)?;
     shown(alloc, &(told, answer, again, left))
 }
 
-/// What is left, as it is read, and as it was at the last sync.
-fn left(alloc: Global, device: &MemoryDevice) -> Result<(String, String), Fail> {
-    judge_cuts(alloc, device.disk())?;
+/// What is left, as it is read, and as it was at the last sync. Fails where a power cut may leave anything except the journal of `one` or
+/// the new one.
+fn left(alloc: Global, device: &MemoryDevice, new: &str) -> Result<(String, String), Fail> {
+    judge_cuts(alloc, device.disk(), new)?;
     for past in device.past() {
-        judge_cuts(alloc, past)?;
+        judge_cuts(alloc, past, new)?;
     }
-    read_and_synced(alloc, device)
-}
-
-fn read_and_synced(alloc: Global, device: &MemoryDevice) -> Result<(String, String), Fail> {
     let read = read_text(alloc, device.bytes())?;
     Ok((read, read_text(alloc, device.disk().synced())?))
 }
 
-/// Fails where a power cut may leave anything except the journal of `one` or that of all three records. Each change has a fate of as many
-/// bytes, all the same.
-fn judge_cuts(alloc: Global, disk: &Disk) -> Result<(), Fail> {
+/// Fails where what is read, or what a cut leaves, is neither the journal of `one` nor the new one. Each change has a fate of as many bytes,
+/// all the same.
+fn judge_cuts(alloc: Global, disk: &Disk, new: &str) -> Result<(), Fail> {
+    judge(alloc, disk.bytes(), new)?;
     for byte in [0, 1, 2, 255] {
         for size in [0, 1, 4, 43, 85] {
             let left = cut(alloc, disk, size, byte)?;
-            judge(alloc, &left, "one|two|three|")?;
+            judge(alloc, &left, new)?;
         }
     }
     Ok(())
@@ -429,7 +414,6 @@ fn cut(alloc: Global, disk: &Disk, size: usize, byte: u8) -> Result<Vec<u8>, Fai
     Ok(disk.cut(alloc, &fates)?)
 }
 
-/// Fails where this is neither the journal of `one` nor that of the new records.
 fn judge(alloc: Global, left: &[u8], new: &str) -> Result<(), Fail> {
     let told = read_text(alloc, left)?;
     if told.as_str() == "one|" || told.as_str() == new {
@@ -444,19 +428,17 @@ fn anew_text(alloc: Global, opened: &mut Opened) -> Result<String, Fail> {
         return Err("it isn't opened".into());
     };
     journal.append(alloc, b"lost")?;
-    let told = written_anew(alloc, journal)?;
-    let left = left_anew(alloc, journal.device())?;
-    let again = journal.commit();
-    let later = read_text(alloc, journal.device().bytes())?;
-    shown(alloc, &(told, left, again, later.as_str()))
-}
-
-fn written_anew(alloc: Global, journal: &mut Journal<MemoryDevice>) -> Result<String, Fail> {
     let mut records = Vec::new(alloc);
     records.push(b"two".to_vec(alloc)?)?;
     records.push(b"three".to_vec(alloc)?)?;
-    let answer = journal.rewrite(alloc, &mut MemoryReplacer, &records);
-    rewrite_text(alloc, answer)
+    let told = rewrite_text(
+        alloc,
+        journal.rewrite(alloc, &mut MemoryReplacer, &records),
+    )?;
+    let left = left(alloc, journal.device(), "two|three|")?;
+    let again = journal.commit();
+    let later = read_text(alloc, journal.device().bytes())?;
+    shown(alloc, &(told, left, again, later.as_str()))
 }
 
 fn rewrite_text(alloc: Global, answer: Result<(), RewriteError>) -> Result<String, Fail> {
@@ -464,22 +446,6 @@ fn rewrite_text(alloc: Global, answer: Result<(), RewriteError>) -> Result<Strin
         Ok(()) => text(alloc, "done"),
         Err(refusal) => Ok(refusal.to_string(alloc)?),
     }
-}
-
-/// The same as `left` of a journal that is written anew.
-fn left_anew(alloc: Global, device: &MemoryDevice) -> Result<(String, String), Fail> {
-    judge_anew(alloc, device.disk())?;
-    for past in device.past() {
-        judge_anew(alloc, past)?;
-    }
-    read_and_synced(alloc, device)
-}
-
-/// Fails where a power cut may leave anything except the journal of `one` or that of `two` and `three`.
-fn judge_anew(alloc: Global, disk: &Disk) -> Result<(), Fail> {
-    let old = disk.cut(alloc, &[])?;
-    judge(alloc, &old, "two|three|")?;
-    judge(alloc, disk.bytes(), "two|three|")
 }
 
 /// The journal that is held in a file. Its drop is written out, so that each place that drops it calls that.
@@ -617,14 +583,6 @@ fn why(alloc: Global, because: &Because<JournalError>) -> Result<String, Fail> {
     }
 }
 
-/// Takes steps where the files of these names aren't there at first.
-fn steps(rt: &HostRuntime, names: &[&str], tables: &[&str]) -> Result<(), Fail> {
-    for name in names {
-        let _ = fs::remove_file(rt, path_of(rt, name)?.as_path());
-    }
-    each_part(rt.alloc(), &mut Filed { rt, journal: None }, tables)
-}
-
 /// A file takes one journal at a time, and isn't made twice. What is left as its other name is taken by the next making.
 const IN_A_FILE: &str = "
     open journals.fwj       => BookFault Main Missing
@@ -642,11 +600,6 @@ const IN_A_FILE: &str = "
     close                   =>
     remove journals.fwj     =>
 ";
-
-#[test]
-fn keeps_what_is_committed_in_a_file(rt: HostRuntime) -> Result<(), Fail> {
-    steps(&rt, &["journals.fwj", "journals.fwj.new"], &[IN_A_FILE])
-}
 
 /// A file that is made or written anew is locked before and after. What a making that was cut may leave under the other name is written
 /// over: five bytes at most, or a file that begins as a journal does.
@@ -764,12 +717,24 @@ const LINKED: &str = "
 ";
 
 #[test]
-fn writes_a_file_anew(rt: HostRuntime) -> Result<(), Fail> {
-    let names = &[
+fn keeps_and_writes_anew_in_a_file(rt: HostRuntime) -> Result<(), Fail> {
+    for name in [
+        "journals.fwj",
+        "journals.fwj.new",
         "rewritten.fwj",
         "rewritten.fwj.new",
         "named.fwj",
         "linked.fwj",
-    ];
-    steps(&rt, names, &[REPLACED, NOT_REPLACED, LINKED])
+    ] {
+        let _ = fs::remove_file(&rt, path_of(&rt, name)?.as_path());
+    }
+    let mut filed = Filed {
+        rt: &rt,
+        journal: None,
+    };
+    each_part(
+        rt.alloc(),
+        &mut filed,
+        &[IN_A_FILE, REPLACED, NOT_REPLACED, LINKED],
+    )
 }

@@ -7,7 +7,7 @@ use crate::hostile::support::{
 };
 use fw_image::{MeterView, OpenError};
 use fw_meter::MeterCore;
-use fw_store::{DeviceStore, FileStoreError};
+use fw_store::{DeviceStore, FileStoreError, VERSION_TWO_SIZE};
 use std::alloc::Global;
 use std::test::Fail;
 use test_tables::{Reads, Words, each_part, present};
@@ -16,20 +16,54 @@ use test_tables::{Reads, Words, each_part, present};
 /// releases, and in version 2 the marks of the blocks from 4,096 on, in 1,536 bytes.
 const SLOTS_AT: usize = 618;
 
-/// What a meter shows is what the front of its header has, which is of version 2.
-fn shows(view: &MeterView, file: &[u8]) -> bool {
-    let marks = view.marked.as_slice().get(..512);
-    let Some(header) = file.get(4..SLOTS_AT) else {
+/// The header of version 2 in the bytes of a file.
+fn header_of(bytes: &[u8]) -> Result<[u8; VERSION_TWO_SIZE], Fail> {
+    let front = present(bytes.get(4..SLOTS_AT), "a header")?;
+    let last = present(bytes.get(bytes.len().saturating_sub(1_544)..), "two slots")?;
+    let mut header = [0; VERSION_TWO_SIZE];
+    for (to, byte) in header.iter_mut().zip(front.iter().chain(last)) {
+        *to = *byte;
+    }
+    Ok(header)
+}
+
+/// What a meter shows is what its header has in its fields, which is of version 2: the names, sizes and releases of the image that runs and of the
+/// goal, if there is one, and the marks among them.
+fn shows(view: &MeterView, header: &[u8; VERSION_TWO_SIZE]) -> bool {
+    let marks = view.marked.as_slice();
+    let Some(marked) = marks.get(..512) else {
         return false;
     };
-    header.starts_with(b"FWH2")
+    let Some(more_marked) = marks.get(512..) else {
+        return false;
+    };
+    let mut names = [0; 86];
+    let mut releases = [0; 8];
+    let head = view.active.campaign.head().map_or(0, |head| head.number());
+    names[0] = 1;
+    names[1..5].copy_from_slice(&head.to_be_bytes());
+    names[5..9].copy_from_slice(&view.active.campaign.serial().to_be_bytes());
+    names[9..41].copy_from_slice(&view.active.digest);
+    releases[..4].copy_from_slice(&view.active.release.to_be_bytes());
+    if let Some(goal) = view.goal {
+        let head = goal.name.campaign.head().map_or(0, |head| head.number());
+        names[41..45].copy_from_slice(&goal.size.to_be_bytes());
+        names[45] = 1;
+        names[46..50].copy_from_slice(&head.to_be_bytes());
+        names[50..54].copy_from_slice(&goal.name.campaign.serial().to_be_bytes());
+        names[54..].copy_from_slice(&goal.name.digest);
+        releases[4..].copy_from_slice(&goal.name.release.to_be_bytes());
+    }
+    &header[..4] == b"FWH2".as_slice()
         && view.limit == 16_384
         && u8::from(view.enabled) == header[4]
         && view.status.number() == header[6]
         && u8::from(view.goal.is_some()) == header[7]
         && view.active_size.to_be_bytes().as_slice() == &header[12..16]
-        && view.active.digest.as_slice() == &header[25..57]
-        && marks == header.get(102..614)
+        && names.as_slice() == &header[16..102]
+        && marked == &header[102..614]
+        && releases.as_slice() == &header[614..622]
+        && more_marked == &header[622..]
 }
 
 /// What comes of the file on a disk. A meter that is opened shows what its header says.
@@ -43,7 +77,7 @@ fn judged(alloc: Global, disk: &Disk) -> Result<Outcome, Fail> {
         Ok(meter) => {
             let view = meter.view();
             drop(meter);
-            if shows(&view, &disk.bytes(alloc)?) {
+            if shows(&view, &header_of(&disk.bytes(alloc)?)?) {
                 Ok(Outcome::Opened)
             } else {
                 Err("a meter was opened as its header doesn't say".into())

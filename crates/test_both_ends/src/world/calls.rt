@@ -72,8 +72,12 @@ const WITHOUT_ONE: &str = "
     old-small: stop-restart 1 3 0            => limit 16384; ([], [(1, 0, 0, 0, 1)], 0, 0)
     old-small: restart-meter 1               => limit 16384; ([], [(1, 0, 0, 0, 1)], 0, 0)
     old-small: to-blocks; stop-restart 1 2 0 => limit 4096; ([(7, 1, 1, Live)], [(1, 1, 0, 0, 1)], 0, 10)
+    old-small: to-blocks; stop-restart 1 3 0 => limit 16384; ([(7, 1, 1, Live)], [(1, 1, 0, 0, 1)], 0, 10)
     old-small: to-blocks; restart-meter 1    => limit 16384; ([(7, 1, 1, Live)], [(1, 1, 0, 0, 1)], 0, 10)
     old-small: to-blocks; stop 6 0 98        => limit 16384; ([(7, 1, 1, Live)], [(1, 1, 0, 0, 1)], 0, 10)
+    // nothing is verified any more once the meter switched
+    old-small: to-blocks; to-verify; to-activate; to-done; stop-restart 1 2 0 => limit 4096; ([(7, 1, 1, Done)], [(1, 6, 7, 1, 3)], 1, 20)
+    old-small: to-blocks; to-verify; to-activate; to-done; stop-restart 1 3 0 => limit 16384; ([(7, 1, 1, Done)], [(1, 6, 7, 1, 3)], 1, 20)
 ";
 
 /// A new meter has the larger limit whatever happens. A restart of one has no write.

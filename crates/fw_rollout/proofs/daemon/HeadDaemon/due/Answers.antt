@@ -1,10 +1,11 @@
-use Rattle.std.proofs.Common.{◌≡◌, ℕ, ◌+◌, ◌≤◌, List, Some, length, min, slice_get, refl, sym, ap, ◌∙◌, arith}
+use Rattle.std.proofs.Common.{◌≡◌, ℕ, ◌+◌, ◌≤◌, List, Some, length, min, slice_get, refl, sym, ap, subst, ◌∙◌, arith}
 use Rattle.fw_rollout.specs.Schedule.{links_of, listed_of}
 use Rattle.fw_rollout.specs.Timing.{max_tick}
 use Rattle.fw_rollout.specs.declared.link.Listed.{Listed}
 use Rattle.fw_rollout.proofs.Lives.{listed_at}
 use Rattle.fw_rollout.proofs.Daemons.{none_live, same_on, ticked_on}
-use Rattle.fw_rollout.specs.Counting.{greatest}
+use Rattle.fw_rollout.specs.Counting.{IsMore, greatest}
+use Rattle.fw_rollout.specs.Daemon.{resent_at}
 use Rattle.fw_rollout.proofs.Dues.{due_before, due_lives, none_asked, out_since}
 use Rattle.fw_rollout.proofs.Queueing.{queued_once}
 use Rattle.fw_rollout.proofs.Rounds.{at_err}
@@ -107,3 +108,12 @@ returns-in_err-datagrams-clause-counts_err g c = at_err c.from_residual-in_err-d
 
 pub returns-in_err-sent-clause-counts_err : goal.returns-in_err-sent-clause-counts_err
 returns-in_err-sent-clause-counts_err g c = at_err c.from_residual-in_err-sent.result refl
+
+-- ---- what is sent again
+
+pub returns-in_default-clause-resends : goal.returns-in_default-clause-resends
+returns-in_default-clause-resends g c = λ leader led. c.in_ok-place.ensures.resends led.schedule
+
+pub returns-clause-resends : goal.returns-clause-resends
+returns-clause-resends g c = λ leader led.
+    subst (λ (n : ℕ). IsMore c.args.self.now.schedule.resends (resent_at c.args.now c.args.self.now) n) (sym c.in_ok-sent.ensures.resends) (c.in_ok-place.ensures.resends led.schedule)

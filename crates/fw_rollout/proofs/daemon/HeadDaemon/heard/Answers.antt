@@ -183,3 +183,14 @@ returns-in_err-end-in-Done-clause-counts_err g c =
 pub returns-in_err-end-in-Failed-clause-counts_err : goal.returns-in_err-end-in-Failed-clause-counts_err
 returns-in_err-end-in-Failed-clause-counts_err g c =
     at_err c.from_residual-in_err-end-in-Failed.result (c.end-in-Failed.ensures.counts ∙ ap (λ (n : ℕ). record c.args.self.now.counts { received = n }) c.count-2.ensures)
+
+-- ---- nothing is sent again by what comes
+
+pub returns-in_ok-answered-in-Moved-clause-resends : goal.returns-in_ok-answered-in-Moved-clause-resends
+returns-in_ok-answered-in-Moved-clause-resends g c = c.in_ok-answered-in-Moved.ensures.resends
+
+pub returns-in_ok-end-in-Done-clause-resends : goal.returns-in_ok-end-in-Done-clause-resends
+returns-in_ok-end-in-Done-clause-resends g c = c.end.ensures.resends
+
+pub returns-in_ok-end-in-Failed-clause-resends : goal.returns-in_ok-end-in-Failed-clause-resends
+returns-in_ok-end-in-Failed-clause-resends g c = c.end-in-Failed.ensures.resends

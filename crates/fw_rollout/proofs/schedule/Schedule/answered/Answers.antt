@@ -64,3 +64,6 @@ returns-clause-schedule c = λ s live.
     c.saturating_sub-self.ensures refl)
     refl c.until-was_until.ensures c.until-until.ensures c.in_ok-turn.ensures
     (queue_turned c.args.place waited.0 c.until-until.result link next c.args.self.now c.turn.new.self s was waited.1 goes c.until-until.ensures c.in_ok-turn.ensures.queued)
+
+pub returns-clause-resends : goal.returns-clause-resends
+returns-clause-resends c = ap (λ s. s.resends) (turn_kept c.args.place _ _ _ _ c.in_ok-turn.ensures)

@@ -29,3 +29,6 @@ returns-clause-schedule c = λ s.
     c.saturating_sub-self.ensures c.saturating_sub-self-2.ensures)
     refl c.until-was_until.ensures (sym (ap until_of over)) c.wait_no_more.ensures (no_new_time c.args.place None c.wait_no_more.new.self refl)
     (queue_over c.args.place link next c.args.self.now c.wait_no_more.new.self s was over (ap (λ x. x.ready.items) c.wait_no_more.ensures.others))
+
+pub returns-clause-resends : goal.returns-clause-resends
+returns-clause-resends c = ap (λ s. s.resends) c.wait_no_more.ensures.others

@@ -3,6 +3,7 @@ use Rattle.std.proofs.lemmas.Option.{slice_get_read}
 use Rattle.fw_rollout.specs.Schedule.{links_of, queued_of}
 use Rattle.fw_rollout.proofs.Moving.{given_up_kept, gives_up}
 use Rattle.fw_rollout.proofs.Queueing.{queue_turned, waits_live}
+use Rattle.fw_rollout.proofs.Resending.{counts_resend, resend_counted}
 use Rattle.fw_rollout.proofs.Settling.{time_there}
 use Rattle.fw_rollout.proofs.Turning.{goes_on_at, is_live_there, live_over, live_true, same_meters, turn_kept, turned_on}
 use Rattle.fw_rollout.proofs.schedule.Schedule.give_up_at.Goals as goal
@@ -44,3 +45,14 @@ returns-clause-schedule c = λ time s waiting.
     (ap (λ s. s.waiting) more) c.until-was_until.ensures c.until-until.ensures c.in_ok-turn.ensures
     (queue_turned c.args.place time c.until-until.result link next c.args.self.now c.turn.new.self s was waited (live_over next.turn kept.2) c.until-until.ensures
     (c.in_ok-turn.ensures.queued ∙ ap (λ s. s.ready.items ++ queued_of c.args.place c.until-until.result) more))
+
+pub returns-clause-resends : goal.returns-clause-resends
+returns-clause-resends c =
+    let link = c.in-Some.link.now in
+    let links = links_of c.args.self.now in
+    let was = slice_get_read links (length links) c.args.place link refl c.in-Some.ensures.item.3.0 c.in-Some.ensures.value in
+    let e = turn_kept c.args.place _ _ _ _ c.in_ok-turn.ensures in
+    counts_resend c.args.place c.args.now link c.args.self.now c.turn.new.self was
+    (ap (λ s. s.resends) e ∙ ap (λ s. s.resends) c.count_resend.ensures
+    ∙ resend_counted c.args.now c.args.self.now.resends link c.given_up-given_up.result c.given_up-given_up.new.self c.is_paused-was_paused.result c.until-until.result
+    c.is_paused-was_paused.ensures c.until-until.ensures c.given_up-given_up.ensures)

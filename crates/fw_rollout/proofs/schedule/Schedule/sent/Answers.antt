@@ -27,3 +27,6 @@ returns-clause-schedule c = λ s due first room few.
     refl refl c.until-until.ensures (no_time c.args.place (until_of link.turn) _ (ap until_of ready)) c.in_ok-wait.ensures
     (queue_sent c.args.place _ link c.sent.new.self c.args.self.now c.wait.new.self s was ready (ap (λ l. l.turn) c.sent.ensures) first
     (ap (λ x. x.ready.items) c.in_ok-wait.ensures.others ∙ c.pop_front.ensures.rest))
+
+pub returns-clause-resends : goal.returns-clause-resends
+returns-clause-resends c = ap (λ s. s.resends) c.in_ok-wait.ensures.others
