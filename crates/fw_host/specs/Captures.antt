@@ -26,7 +26,8 @@ module _ {S : Type 0} (takes : S → S → List ℕ → Type 0) where
 
   -- Where there is a capture, the record of this is what was put into its sink last.
   abbrev pub IsRecorded : Option S → Told → Type 0
-  IsRecorded last told = (first : Option S) × Captures first last told
+  IsRecorded None told = Unit {0}
+  IsRecorded (Some last) told = (first : S) × (nanoseconds : ℕ) × takes first last (packet_bytes nanoseconds told)
 
   -- Where there is a capture, the record of this was put, and before it the note of so many datagrams of strangers, if there are any.
   abbrev pub CapturesNoted : ℕ → Option S → Option S → Told → Type 0

@@ -35,7 +35,7 @@ impl<'a, C: Clock, S: Sink + Drop, P: PortBelow> CapturePort<'a, C, S, P> {
         sink: Option<S>,
     ) -> CapturePort<'a, C, S, P>
         ensures at { result.recorder.at ≡ at }
-        ensures sink { result.recorder.sink ≡ sink.entry }
+        ensures sink { result.recorder.sink ≡ sink }
         ensures turns { result.recorder.has_turns ≡ false }
         ensures open { result.recorder.failed ≡ false }
     {
@@ -55,7 +55,7 @@ impl<'a, C: Clock, S: Sink + Drop, P: PortBelow> CapturePort<'a, C, S, P> {
         sink: Option<S>,
     ) -> CapturePort<'a, C, S, P>
         ensures at { result.recorder.at ≡ at }
-        ensures sink { result.recorder.sink ≡ sink.entry }
+        ensures sink { result.recorder.sink ≡ sink }
         ensures turns { result.recorder.has_turns ≡ true }
         ensures open { result.recorder.failed ≡ false }
     {

@@ -40,7 +40,7 @@ impl<'a, C: Clock, S: Sink + Drop> Recorder<'a, C, S> {
         has_turns: bool,
     ) -> Recorder<'a, C, S>
         ensures at { result.at ≡ at }
-        ensures sink { result.sink ≡ sink.entry }
+        ensures sink { result.sink ≡ sink }
         ensures turns { result.has_turns ≡ has_turns }
         ensures failed { result.failed ≡ false }
     {
