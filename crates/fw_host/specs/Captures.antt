@@ -1,6 +1,5 @@
 -- Public vocabulary: the captures of daemons: what they get of a datagram, and the faults that end one.
-use Rattle.std.specs.Prelude.{◌≡◌, ◌⊎◌, ℕ, Bool, true, false, MatchBool, nat_lt, List, [], ◌∷◌, ◌++◌, take, Option, Some, None, Err, if◌then◌else◌}
-use Rattle.std.specs.Io.KnownBytes.{Appends}
+use Rattle.std.specs.Prelude.{◌≡◌, ◌⊎◌, ℕ, Bool, true, false, MatchBool, nat_lt, List, [], ◌∷◌, take, Option, Some, None, Err, if◌then◌else◌}
 use Rattle.fw_capture.specs.Spelling.{file_header, packet_bytes}
 use Rattle.std.specs.declared.net.socket_addr.SocketAddr.{SocketAddr}
 use Rattle.fw_capture.specs.declared.fault.CaptureFault.{CaptureFault}
@@ -17,24 +16,38 @@ use Rattle.fw_host.specs.declared.strangers.Strangers.{Strangers}
 use Rattle.fw_host.specs.Strangers.{is_stranger}
 use Rattle.fw_faults.specs.declared.fault.Fault.TheVariants as faults
 
--- Where there is a capture, the record of this was appended to it, at some time.
-abbrev pub Captures : Option (Option (List ℕ)) → Option (Option (List ℕ)) → Told → Type 0
-Captures None last told = last ≡ None
-Captures (Some first) None told = ⊥
-Captures (Some first) (Some last) told = (nanoseconds : ℕ) × Appends first last (packet_bytes nanoseconds told)
+-- what a sink takes by a call
+module _ {S : Type 0} (takes : S → S → List ℕ → Type 0) where
+  -- Where there is a capture, the record of this was put into its sink, at some time, by one call and no other.
+  abbrev pub Captures : Option S → Option S → Told → Type 0
+  Captures None last told = last ≡ None
+  Captures (Some first) None told = ⊥
+  Captures (Some first) (Some last) told = (nanoseconds : ℕ) × takes first last (packet_bytes nanoseconds told)
 
--- Where there is a capture, the record of this was appended, and before it the note of so many datagrams of strangers, if there are any.
-abbrev pub CapturesNoted : ℕ → Option (Option (List ℕ)) → Option (Option (List ℕ)) → Told → Type 0
-CapturesNoted count first last told =
-    MatchBool (nat_lt 0 count)
-    ((mid : Option (Option (List ℕ))) × Captures first mid (note (notes.Strangers count)) × Captures mid last told)
-    (Captures first last told)
+  -- Where there is a capture, the record of this is what was put into its sink last.
+  abbrev pub IsRecorded : Option S → Told → Type 0
+  IsRecorded None told = Unit {0}
+  IsRecorded (Some last) told = (first : S) × (nanoseconds : ℕ) × takes first last (packet_bytes nanoseconds told)
 
--- each of these, one after another, where so many datagrams of strangers came before
-abbrev pub CapturesAll : ℕ → Option (Option (List ℕ)) → Option (Option (List ℕ)) → List Told → Type 0
-CapturesAll count first last [] = last ≡ first
-CapturesAll count first last (told ∷ rest) =
-    (mid : Option (Option (List ℕ))) × CapturesNoted count first mid told × CapturesAll 0 mid last rest
+  -- Where there is a capture, the record of this was put, and before it the note of so many datagrams of strangers, if there are any.
+  abbrev pub CapturesNoted : ℕ → Option S → Option S → Told → Type 0
+  CapturesNoted count first last told =
+      MatchBool (nat_lt 0 count)
+      ((mid : Option S) × Captures first mid (note (notes.Strangers count)) × Captures mid last told)
+      (Captures first last told)
+
+  -- each of these, one after another, where so many datagrams of strangers came before
+  abbrev pub CapturesAll : ℕ → Option S → Option S → List Told → Type 0
+  CapturesAll count first last [] = last ≡ first
+  CapturesAll count first last (told ∷ rest) =
+      (mid : Option S) × CapturesNoted count first mid told × CapturesAll 0 mid last rest
+
+  -- What a process that starts puts into a capture with this front, as long as a file header, or all of it where it is shorter: the file header,
+  -- where the capture is empty, and the note of the start. Any other front is a file header.
+  abbrev pub StartsCapture : List ℕ → ℕ → S → S → Type 0
+  StartsCapture [] nanoseconds first last =
+      (mid : S) × takes first mid file_header × takes mid last (packet_bytes nanoseconds (note notes.Start))
+  StartsCapture (x ∷ xs) nanoseconds first last = ((x ∷ xs) ≡ file_header) × takes first last (packet_bytes nanoseconds (note notes.Start))
 
 -- how many datagrams of strangers have no note behind these records
 abbrev pub count_after : ℕ → List Told → ℕ
@@ -56,19 +69,13 @@ abbrev pub stranger_count : Strangers → ℕ
 stranger_count s = if s.are_recorded then s.count else one_more s.count
 
 -- What is recorded of what came: the datagram; a stranger's, where those are recorded; and the turn that a meter takes then which verifies.
-abbrev pub CapturesArrival : Strangers → Bool → SocketAddr → Patience → Option Arrival → List ℕ → Option (Option (List ℕ)) → Option (Option (List ℕ))
-    → Type 0
-CapturesArrival s has_turns at patience None buffer first last = CapturesAll s.count first last (turn_told has_turns patience)
-CapturesArrival s has_turns at patience (Some a) buffer first last =
-    CapturesAll (if is_stranger s.known a.from then stranger_count s else s.count) first last
+abbrev pub CapturesArrival : {S : Type 0} → (S → S → List ℕ → Type 0) → Strangers → Bool → SocketAddr → Patience → Option Arrival → List ℕ
+    → Option S → Option S → Type 0
+CapturesArrival takes s has_turns at patience None buffer first last = CapturesAll takes s.count first last (turn_told has_turns patience)
+CapturesArrival takes s has_turns at patience (Some a) buffer first last =
+    CapturesAll takes (if is_stranger s.known a.from then stranger_count s else s.count) first last
     (if is_stranger s.known a.from then stranger_told s.are_recorded has_turns at patience a.from (take a.count buffer)
     else (datagram (endpoint_of a.from) (endpoint_of at) (take a.count buffer) ∷ []))
-
--- What a process that starts appends to a capture with this front, as long as a file header, or all of it where it is shorter: the file header,
--- where the capture is empty, and the note of the start. Any other front is a file header.
-abbrev pub StartsCapture : List ℕ → ℕ → Option (List ℕ) → Option (List ℕ) → Type 0
-StartsCapture [] nanoseconds first last = Appends first last (file_header ++ packet_bytes nanoseconds (note notes.Start))
-StartsCapture (x ∷ xs) nanoseconds first last = ((x ∷ xs) ≡ file_header) × Appends first last (packet_bytes nanoseconds (note notes.Start))
 
 -- a capture that isn't gone on with: its file header has a fault, or something else than less than a record stands behind its whole records
 abbrev pub IsForeign : List ℕ → Type 0

@@ -1,7 +1,6 @@
 //! The capture of a daemon, in a file.
 
 ghost use Rattle.std.specs.Prelude.{◌≡◌, ◌≢◌, ◌≤◌, ◌↔◌, ℕ, List, [], Some, IfErr, IfOk, IsTrue, OnOk, length};
-ghost use Rattle.std.specs.Io.KnownBytes.{Appends, Keeps};
 ghost use Rattle.fw_disk.specs.declared.name.Name.TheVariants.{Main};
 ghost use Rattle.fw_capture.specs.Spelling.{file_header, packet_bytes};
 ghost use Rattle.fw_capture.specs.View.{told_of};
@@ -13,10 +12,10 @@ use crate::files::folder_of;
 use fw_capture::{Captured, Content, Note, WholeError, file_header, whole_len};
 use fw_disk::{Because, Cause, Name, SystemFolder, open};
 use fw_faults::Fault;
-use fw_recording::{write_header, write_record};
+use fw_recording::{Sink, write_header, write_record};
 use std::alloc::{AllocError, Global};
 use std::fs::File;
-use std::io::{BufReader, Read, Seek, SeekFrom, Write};
+use std::io::{BufReader, Read, Seek, SeekFrom};
 use std::os::unix::fs::FileExt;
 use std::rt::{Clock, Files};
 use std::time::{SystemTime, UNIX_EPOCH};
@@ -142,29 +141,24 @@ fn read_front(file: &File, buffer: &mut [u8]) -> Result<usize, Cause>
     Ok(count)
 }
 
-/// Writes the file header where the front of a capture has no byte, and the note of the start.
+/// Puts the file header where the front of a capture has no byte, and the note of the start.
 ///
 /// # Errors
 ///
-/// - `CaptureFault`: the writer failed, or memory was refused, or it is the year 2106.
-/// - `ForeignCapture`: the front is another one than the file header. Nothing was written.
-fn start<W: Write>(
-    alloc: Global,
-    writer: &mut W,
-    nanoseconds: u64,
-    front: &[u8],
-) -> Result<(), Fault>
-    ensures written { OnOk result (StartsCapture front.now nanoseconds (W.contents writer.old) (W.contents writer.new)) }
+/// - `CaptureFault`: the sink failed, or memory was refused, or it is the year 2106.
+/// - `ForeignCapture`: the front is another one than the file header. Nothing was put.
+fn start<S: Sink>(alloc: Global, sink: &mut S, nanoseconds: u64, front: &[u8]) -> Result<(), Fault>
+    ensures written { OnOk result (StartsCapture S.takes front.now nanoseconds sink.old sink.new) }
     ensures foreign { result ≡ Err Fault.ForeignCapture → (front.now ≢ []) × (front.now ≢ file_header) }
-    ensures silent { result ≡ Err Fault.ForeignCapture → Keeps (W.contents writer.old) (W.contents writer.new) }
+    ensures silent { result ≡ Err Fault.ForeignCapture → sink.new ≡ sink.old }
     ensures faults { IfErr result IsOfCapture }
 {
     if front.is_empty() {
-        write_header(alloc, writer).map_err(|_| Fault::CaptureFault)?;
+        write_header(alloc, sink).map_err(|_| Fault::CaptureFault)?;
     } else if !is_own(alloc, front).map_err(|_| Fault::CaptureFault)? {
         return Err(Fault::ForeignCapture);
     }
-    put_record(alloc, writer, nanoseconds, Content::Note(Note::Start))
+    put_record(alloc, sink, nanoseconds, Content::Note(Note::Start))
 }
 
 /// Whether these bytes are the file header of a capture that is written.
@@ -175,25 +169,25 @@ fn is_own(alloc: Global, bytes: &[u8]) -> Result<bool, AllocError>
     Ok(bytes == header.as_slice())
 }
 
-/// Appends the record of what a packet tells.
+/// Puts the record of what a packet tells, by one call.
 ///
 /// # Errors
 ///
-/// `CaptureFault`: the writer failed, or memory was refused, or the packet makes no record, as in the year 2106.
-pub(crate) fn put_record<W: Write>(
+/// `CaptureFault`: the sink failed, or memory was refused, or the packet makes no record, as in the year 2106.
+pub(crate) fn put_record<S: Sink>(
     alloc: Global,
-    writer: &mut W,
+    sink: &mut S,
     nanoseconds: u64,
     content: Content<'_>,
 ) -> Result<(), Fault>
-    ensures written { OnOk result (Appends (W.contents writer.old) (W.contents writer.new) (packet_bytes nanoseconds (told_of content.entry))) }
+    ensures written { OnOk result (S.takes sink.old sink.new (packet_bytes nanoseconds (told_of content.entry))) }
     ensures faults { IfErr result (λ f. f ≡ Fault.CaptureFault) }
 {
     let captured = Captured {
         nanoseconds,
         content,
     };
-    write_record(alloc, writer, &captured).map_err(|_| Fault::CaptureFault)
+    write_record(alloc, sink, &captured).map_err(|_| Fault::CaptureFault)
 }
 
 /// The nanoseconds since the start of 1970, and 0 where the system has no time.

@@ -6,6 +6,7 @@ use crate::capture_port::CapturePort;
 use crate::head_lines::ended_line;
 use fw_faults::write_text;
 use fw_port::{Arrival, Closed, Patience, Port};
+use fw_recording::Sink;
 use fw_rollout::{Ended, HeadPort};
 use std::alloc::Global;
 use std::io::Write;
@@ -15,7 +16,7 @@ use std::time::Instant;
 
 /// A UDP socket with its capture, a clock and a writer. Nothing is known of what a network does, so it is not honest.
 #[derive(Drop)]
-pub struct UdpHeadPort<'a, C: Clock, W: Write, V: Write + Drop> {
+pub struct UdpHeadPort<'a, C: Clock, W: Write, V: Sink + Drop> {
     rt: &'a C,
     alloc: Global,
     port: CapturePort<'a, C, V>,
@@ -23,7 +24,7 @@ pub struct UdpHeadPort<'a, C: Clock, W: Write, V: Write + Drop> {
     began: Option<Instant>,
 }
 
-impl<'a, C: Clock, W: Write, V: Write + Drop> UdpHeadPort<'a, C, W, V> {
+impl<'a, C: Clock, W: Write, V: Sink + Drop> UdpHeadPort<'a, C, W, V> {
     /// The time begins now. Nothing is sent, received or written yet.
     pub fn new(
         rt: &'a C,
@@ -46,13 +47,13 @@ impl<'a, C: Clock, W: Write, V: Write + Drop> UdpHeadPort<'a, C, W, V> {
 
     /// Whether the port is closed since its capture could not be written.
     pub fn has_failed(&self) -> bool
-        ensures { result ≡ self.now.port.failed }
+        ensures { result ≡ self.now.port.recorder.failed }
     {
         self.port.has_failed()
     }
 }
 
-impl<'a, C: Clock, W: Write, V: Write + Drop> Port<Ended> for UdpHeadPort<'a, C, W, V> {
+impl<'a, C: Clock, W: Write, V: Sink + Drop> Port<Ended> for UdpHeadPort<'a, C, W, V> {
     ghost use Rattle.std.specs.Prelude.{false, [], ⊤};
 
     ghost honest = { λ _. false };
@@ -78,7 +79,7 @@ impl<'a, C: Clock, W: Write, V: Write + Drop> Port<Ended> for UdpHeadPort<'a, C,
     }
 }
 
-impl<'a, C: Clock, W: Write, V: Write + Drop> HeadPort for UdpHeadPort<'a, C, W, V> {
+impl<'a, C: Clock, W: Write, V: Sink + Drop> HeadPort for UdpHeadPort<'a, C, W, V> {
     /// The microseconds since the port was made, and 0 where the system has no time.
     fn now(&self) -> u64 {
         let (Some(began), Ok(now)) = (self.began, Instant::now(self.rt)) else {

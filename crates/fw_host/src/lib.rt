@@ -5,6 +5,7 @@
 mod capture_file;
 mod capture_making;
 mod capture_port;
+mod capture_port_calls;
 mod files;
 mod head_addresses;
 mod head_book;
@@ -17,6 +18,8 @@ mod head_progress;
 mod meter_lines;
 mod meter_list;
 mod meter_store;
+mod port_below;
+mod recorder;
 mod strangers;
 
 pub use capture_file::open_capture;

@@ -5,7 +5,9 @@ mod error;
 pub mod laws;
 mod record;
 mod recording;
+mod sink;
 
 pub use error::RecordError;
 pub use record::{write_header, write_record};
 pub use recording::capture_of;
+pub use sink::Sink;
