@@ -1,10 +1,10 @@
 -- Which texts are pairs of hexadecimal digits.
-use Rattle.std.proofs.Common.{◌≡◌, ℕ, ◌%◌, ◌-◌, Bool, true, false, List, [], ◌∷◌, length, Some, None, Result, Ok, Err, refl, sym, ◌∙◌}
-use Rattle.std.specs.Prelude.{IsOk, is_some, nat_le, ◌&&◌, ◌||◌, if◌then◌else◌}
+use Rattle.std.proofs.Common.{◌≡◌, ℕ, ◌%◌, ◌/◌, ◌-◌, Bool, true, false, List, [], ◌∷◌, length, Some, None, Result, Ok, Err, refl, sym, ◌∙◌, arith}
+use Rattle.std.specs.Prelude.{IsOk, IsErr, is_some, nat_le, ◌&&◌, ◌||◌, if◌then◌else◌}
 use Rattle.std.specs.List.{list_all}
 use Rattle.std.specs.Char.{is_ascii_hexdigit}
 use Rattle.std.proofs.lemmas.List.Sums.{AllPass-from_list_all, list_all-from_AllPass}
-use Rattle.hex.specs.Hex.{decode_of, is_hex_digit}
+use Rattle.hex.specs.Hex.{decode_of, decode_sized, is_hex_digit}
 use Rattle.hex.specs.declared.error.FromHexError.{FromHexError}
 use Rattle.hex.proofs.HexLemmas.{decode_of-ok, decode_of-digits}
 
@@ -38,3 +38,12 @@ pub decoded_digits : (s : List ℕ) → IsOk (decode_of s) → (length s % 2 ≡
 decoded_digits s ok =
     let r = bytes_in (decode_of s) ok in
     let d = decode_of-ok s r.0 r.1 in (d.0, sym (same_digits s) ∙ list_all-from_AllPass is_hex_digit s d.1)
+
+-- a text that spells nothing
+pub is_err : {A E : Type 0} (r : Result A E) → (IsOk r → ⊥) → IsErr r
+is_err (Ok x) not = absurd (not refl)
+is_err (Err e) not = refl
+
+-- room that is half as long as the digits fits
+pub sized : (s : List ℕ) (n : ℕ) → length s % 2 ≡ 0 → n ≡ length s / 2 → decode_sized s n ≡ decode_of s
+sized s n even half = rw half (grind (arith))

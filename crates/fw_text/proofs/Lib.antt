@@ -1,4 +1,3 @@
-pub mod DigitLemmas
 pub mod Digits
 pub mod LineLemmas
 pub mod WordLemmas
