@@ -6,3 +6,5 @@ mod Moments
 mod Kept
 mod Mends
 mod Blocks
+mod Makings
+mod Fates

@@ -6,6 +6,7 @@ pub mod Past
 pub mod Memory
 pub mod Book
 pub mod Begun
+pub mod Making
 pub mod File
 pub mod Journal
 pub mod Keeping

@@ -1,7 +1,7 @@
 -- Public vocabulary: what a device in memory holds, and what a power cut may leave of it.
-use Rattle.std.specs.Prelude.{◌≡◌, ◌⊎◌, ℕ, List, [], ◌∷◌, length, drop}
+use Rattle.std.specs.Prelude.{◌≡◌, ◌⊎◌, ◌+◌, ◌<◌, ℕ, List, [], ◌∷◌, All, cond, nat_lt, min, length, take, drop}
 use mathlib.Core.Logic.{inl, inr}
-use Rattle.fw_journal.specs.Device.{IsTorn, IsShortened}
+use Rattle.fw_journal.specs.Device.{splice, IsTorn, IsShortened}
 use Rattle.fw_journal.specs.declared.disk.Change.{Change}
 use Rattle.fw_journal.specs.declared.disk.Change.TheVariants.{Write, Shorten}
 
@@ -24,6 +24,40 @@ LeavesOfAll (change ∷ changes) old new = (between : List ℕ) × LeavesOf chan
 -- a power cut leaves what is read, or what may be left of the changes since the last sync
 abbrev pub MayLeave : Held → List ℕ → Type 0
 MayLeave held left = (left ≡ held.bytes) ⊎ LeavesOfAll held.changes held.synced left
+
+-- ---- what is left by a choice
+
+-- What is left of a change that has this fate: of a write the first bytes of it, in the front of its range, and what was there in the
+-- rest; of a shortening as many bytes past its length as it has. A write after the end leaves what was there.
+abbrev pub fated : Change → List ℕ → List ℕ → List ℕ
+fated (Write at size) fate old = cond (nat_lt (length old) at) old (splice old at (take size fate))
+fated (Shorten len) fate old = take (min len (length old) + length fate) old
+
+-- the first fate, which is empty where there is none
+abbrev pub first_fate : List (List ℕ) → List ℕ
+first_fate [] = []
+first_fate (fate ∷ fates) = fate
+
+-- what is left of several changes, of which each has the next fate
+abbrev pub fated_all : List Change → List (List ℕ) → List ℕ → List ℕ
+fated_all [] fates old = old
+fated_all (change ∷ changes) fates old = fated_all changes (drop 1 fates) (fated change (first_fate fates) old)
+
+-- what a power cut leaves of the changes since the last sync where they have these fates
+abbrev pub cut_of : Held → List (List ℕ) → List ℕ
+cut_of held fates = fated_all held.changes fates held.synced
+
+-- each is a byte
+abbrev pub AreBytes : List ℕ → Type 0
+AreBytes bytes = All (λ b. b < 256) bytes
+
+-- the changes since the last sync have fates of which a power cut leaves these bytes
+pub record IsCut (held : Held) (left : List ℕ) : Type 0 where
+  pub fates : List (List ℕ)
+  pub are_bytes : All AreBytes fates
+  pub left_is : left ≡ cut_of held fates
+
+-- ---- since when
 
 -- at one of these moments a power cut might have left this
 abbrev pub MightHaveLeft : List Held → List ℕ → Type 0

@@ -112,4 +112,8 @@ pub trait JournalDevice {
 
     /// Since this moment there is no other.
     ghost only_now: { (device : Self) (left : List ℕ) → left_since device (moment device) left → may_leave device left };
+
+    /// What reads give is among what a power cut may leave. So a process that is killed leaves to the next one what a cut might have left,
+    /// and there is always something that a cut may leave.
+    ghost reads_may_be_left: { (device : Self) → IsTrue (honest device) → may_leave device (contents device) };
 }

@@ -1,8 +1,9 @@
 //! What a device in memory holds, and what a power cut may leave of it.
 
-ghost use Rattle.std.specs.Prelude.{◌≡◌, ◌≤◌, ◌++◌, [], ◌∷◌, List, ℕ, length, take, IfOk};
+ghost use Rattle.std.specs.Prelude.{◌≡◌, ◌+◌, ◌≤◌, ◌++◌, [], ◌∷◌, List, ℕ, length, min, take, drop, IfOk};
+ghost use Rattle.fw_journal.specs.Book.{contents_of};
 ghost use Rattle.fw_journal.specs.Device.{splice};
-ghost use Rattle.fw_journal.specs.Past.{LeavesOf, LeavesOfAll};
+ghost use Rattle.fw_journal.specs.Past.{LeavesOf, LeavesOfAll, fated, fated_all, first_fate};
 
 use std::alloc::{AllocError, Global};
 use std::marker::Model;
@@ -33,7 +34,7 @@ impl Model for Disk {
 }
 
 impl Disk {
-    ghost use Rattle.fw_journal.specs.Past.{MayLeave};
+    ghost use Rattle.fw_journal.specs.Past.{MayLeave, cut_of};
 
     /// A disk with these bytes, all of them synced.
     pub(crate) fn new(alloc: Global, bytes: Vec<u8>) -> Result<Disk, AllocError>
@@ -70,13 +71,15 @@ impl Disk {
 
     /// One of the byte strings that a power cut may leave. Each change since the last sync takes the next fate: a write leaves its bytes in
     /// the front of its range, and what was there in the rest; a shortening leaves as many bytes past its length as the fate has. Where no
-    /// fate is left, a write leaves what was there, and a shortening is whole. So does a write after the end of what is left.
+    /// fate is left, a write leaves what was there, and a shortening is whole. So does a write after the end of what is left. Each byte string
+    /// that may be left is that of some fates, or what is read (`laws::each_is_cut`).
     ///
     /// # Errors
     ///
     /// `AllocError` where memory was refused.
     pub fn cut(&self, alloc: Global, fates: &[Vec<u8>]) -> Result<Vec<u8>, AllocError>
-        ensures { IfOk result (λ left. MayLeave self.now left.items) }
+        ensures may { IfOk result (λ left. MayLeave self.now left.items) }
+        ensures chosen { IfOk result (λ left. left.items ≡ cut_of self.now (contents_of fates.now)) }
     {
         left_of_all(alloc, &self.synced, &self.changes, fates)
     }
@@ -141,25 +144,45 @@ fn left_of_all(
     changes: &[Change],
     fates: &[Vec<u8>],
 ) -> Result<Vec<u8>, AllocError>
-    ensures { IfOk result (λ left. LeavesOfAll changes.now synced.now left.items) }
+    ensures may { IfOk result (λ left. LeavesOfAll changes.now synced.now left.items) }
+    ensures chosen { IfOk result (λ left. left.items ≡ fated_all changes.now (contents_of fates.now) synced.now) }
 {
     let mut left = synced.to_vec(alloc)?;
     let mut later = changes;
-    let mut fates = fates.iter();
+    let mut rest = fates;
     while let Some((change, others)) = later.split_first() {
-        let next = match fates.next() {
-            Some(fate) => left_of(alloc, *change, &left, fate.as_slice())?,
-            None => left_of(alloc, *change, &left, &[])?,
-        };
+        let next = left_of(alloc, *change, &left, first_fate(rest))?;
         left = next;
         later = others;
+        rest = other_fates(rest);
     }
     Ok(left)
 }
 
+/// The first fate. Where there is none, it is empty.
+fn first_fate(fates: &[Vec<u8>]) -> &[u8]
+    ensures { result.now ≡ first_fate (contents_of fates.now) }
+{
+    match fates.split_first() {
+        Some((fate, _)) => fate.as_slice(),
+        None => &[],
+    }
+}
+
+/// The fates after the first one.
+fn other_fates(fates: &[Vec<u8>]) -> &[Vec<u8>]
+    ensures { contents_of result.now ≡ drop 1 (contents_of fates.now) }
+{
+    match fates.split_first() {
+        Some((_, others)) => others,
+        None => fates,
+    }
+}
+
 /// What is left of a change with this fate.
 fn left_of(alloc: Global, change: Change, old: &[u8], fate: &[u8]) -> Result<Vec<u8>, AllocError>
-    ensures { IfOk result (λ left. LeavesOf change old.now left.items) }
+    ensures may { IfOk result (λ left. LeavesOf change old.now left.items) }
+    ensures chosen { IfOk result (λ left. left.items ≡ fated change fate.now old.now) }
 {
     match change {
         Change::Write { at, size } => torn(alloc, at, size, old, fate),
@@ -169,7 +192,8 @@ fn left_of(alloc: Global, change: Change, old: &[u8], fate: &[u8]) -> Result<Vec
 
 /// What is left of a write of `size` bytes: the first bytes of its fate, no more than that, in the front of its range.
 fn torn(alloc: Global, at: u64, size: u64, old: &[u8], fate: &[u8]) -> Result<Vec<u8>, AllocError>
-    ensures { IfOk result (λ left. LeavesOf (Change.Write at size) old.now left.items) }
+    ensures may { IfOk result (λ left. LeavesOf (Change.Write at size) old.now left.items) }
+    ensures chosen { IfOk result (λ left. left.items ≡ fated (Change.Write at size) fate.now old.now) }
 {
     if at > old.len() as u64 {
         return old.to_vec(alloc);
@@ -179,14 +203,16 @@ fn torn(alloc: Global, at: u64, size: u64, old: &[u8], fate: &[u8]) -> Result<Ve
 
 /// The first bytes, `size` at most.
 fn at_most(bytes: &[u8], size: u64) -> &[u8]
-    ensures { length result.now ≤ size }
+    ensures front { result.now ≡ take size bytes.now }
+    ensures short { length result.now ≤ size }
 {
     &bytes[..bytes.len().min(size as usize)]
 }
 
 /// What is left of a shortening where up to `more` bytes past its length stay.
 fn partly_shortened(alloc: Global, len: u64, old: &[u8], more: usize) -> Result<Vec<u8>, AllocError>
-    ensures { IfOk result (λ left. LeavesOf (Change.Shorten len) old.now left.items) }
+    ensures may { IfOk result (λ left. LeavesOf (Change.Shorten len) old.now left.items) }
+    ensures chosen { IfOk result (λ left. left.items ≡ take (min len (length old.now) + more) old.now) }
 {
     let kept = shortened(alloc, old, len)?;
     let stay = more.min(old.len() - kept.len());

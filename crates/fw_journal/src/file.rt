@@ -230,6 +230,8 @@ impl JournalDevice for FileDevice {
 
     ghost only_now = { λ _ _ now. now };
 
+    ghost reads_may_be_left = { λ _ _. tt };
+
     fn len(&mut self) -> Result<u64, DeviceError>
         ensures fault { IfErr result (λ e. e ≡ DeviceError.Fault) }
         ensures cause { OnErr result (IsSome (cause_of self.new)) }

@@ -29,6 +29,7 @@ ghost use Rattle.fw_journal.specs.Device.{IsSynced, LeavesOnly, Keeps};
 ghost use Rattle.fw_journal.specs.Book.{blocks, book_front, book_bytes, contents_of, AreRecords, Stands, IsBadBook, HasBlocks, Drops};
 ghost use Rattle.fw_journal.specs.Group.{Takes, EndsAt};
 ghost use Rattle.fw_journal.specs.Keeping.{KeepsFirst};
+ghost use Rattle.fw_journal.specs.Making.{LeavesMaking};
 ghost use Rattle.fw_journal.specs.Refusals.{IsMakingRefusal, IsOpeningRefusal, IsCommitRefusal};
 
 use crate::device::JournalDevice;
@@ -72,8 +73,8 @@ impl<D: JournalDevice + Drop> Drop for Journal<D> {
 impl<D: JournalDevice> Journal<D> {
     ghost use Rattle.fw_journal.specs.Journal.{device_of, end_of, waiting_of, is_broken, Has, MayCommit};
 
-    /// Makes a journal without records on a device without bytes, and syncs it. A power cut in the call leaves any bytes, so that a
-    /// file is made beside, and renamed then.
+    /// Makes a journal without records on a device without bytes, and syncs it. A power cut in the call leaves up to five bytes of any value,
+    /// so that a file is made beside, and renamed then.
     ///
     /// # Errors
     ///
@@ -85,6 +86,10 @@ impl<D: JournalDevice> Journal<D> {
         ensures not_empty { IsTrue (D.honest device) → IfErr result (λ e. e.0 ≡ JournalError.NotEmpty
             → (D.contents device ≢ []) × (D.contents e.1 ≡ D.contents device)) }
         ensures memory { IsTrue (D.honest device) → IfErr result (λ e. e.0 ≡ JournalError.OutOfMemory → D.contents device ≡ []) }
+
+        // A cut at any moment of the call leaves what one before it might have left, with any bytes for its first five.
+        ensures any_moment { IsTrue (D.honest device) → IfOk result (λ journal. LeavesMaking D.JournalDevice device (device_of journal)) }
+        ensures any_moment_err { IsTrue (D.honest device) → IfErr result (λ e. LeavesMaking D.JournalDevice device e.1) }
         ensures never { IsTrue (D.sound device) → IfErr result (λ e. e.0 ≢ JournalError.BookFault) }
         ensures refusals { IfErr result (λ e. IsMakingRefusal e.0) }
         ensures kept { IfOk result (λ journal. Keeps D.honest D.sound device (device_of journal)) }
@@ -388,6 +393,7 @@ fn lay_out<D: JournalDevice>(device: &mut D) -> Result<u64, JournalError>
     ensures not_empty { IsTrue (D.honest device.old) → IsErrOf result JournalError.NotEmpty
         → (D.contents device.old ≢ []) × (D.contents device.new ≡ D.contents device.old) }
     ensures memory { IsTrue (D.honest device.old) → IsErrOf result JournalError.OutOfMemory → D.contents device.old ≡ [] }
+    ensures any_moment { IsTrue (D.honest device.old) → LeavesMaking D.JournalDevice device.old device.new }
     ensures never { IsTrue (D.sound device.old) → ¬ IsErrOf result JournalError.BookFault }
     ensures refusals { IfErr result IsMakingRefusal }
     ensures kept { Keeps D.honest D.sound device.old device.new }

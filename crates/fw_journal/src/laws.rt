@@ -1,6 +1,6 @@
 //! Laws of the bytes of a journal, over the definitions alone.
 
-ghost use Rattle.fw_journal.specs.Laws.{OneReading, BadIsNone, BookStands, OneCount, FirstBytesBegin};
+ghost use Rattle.fw_journal.specs.Laws.{OneReading, BadIsNone, BookStands, OneCount, EachIsCut, CutMakingsBegin, FirstBytesBegin};
 
 /// Bytes stand for one list of records at most.
 pub fn one_reading()
@@ -26,4 +26,16 @@ pub fn one_count()
 /// before any other is written, so what a cut making leaves is taken by the next one.
 pub fn first_bytes_begin()
     ensures { FirstBytesBegin }
+{}
+
+/// What a power cut may leave in the making of a journal, of a file without bytes, counts as left of a journal that is made: so the next making
+/// takes it.
+pub fn cut_makings_begin()
+    ensures { CutMakingsBegin }
+{}
+
+/// Each byte string that a power cut may leave of a device in memory is what is read, or what a cut leaves where the changes since the last
+/// sync have some fates.
+pub fn each_is_cut()
+    ensures { EachIsCut }
 {}

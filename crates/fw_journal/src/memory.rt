@@ -188,7 +188,7 @@ impl Keeper for MemoryKeeper {
 
 impl JournalDevice for MemoryDevice {
     ghost use Rattle.std.specs.Prelude.{true};
-    ghost use Rattle.std.proofs.Common.{inl};
+    ghost use Rattle.std.proofs.Common.{inl, refl};
     ghost use Rattle.fw_journal.specs.Past.{only_now};
     ghost use Rattle.fw_journal.specs.Memory.{held_of, bytes_of, past_of, is_sound, leaves, left_since};
 
@@ -207,6 +207,8 @@ impl JournalDevice for MemoryDevice {
     ghost counts_now = { λ m since left le now. inl now };
 
     ghost only_now = { λ m left now. only_now (past_of m) (held_of m) left now };
+
+    ghost reads_may_be_left = { λ m yes. inl refl };
 
     fn len(&mut self) -> Result<u64, DeviceError> {
         burn(&mut self.fuse)?;

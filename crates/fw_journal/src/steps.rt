@@ -11,6 +11,7 @@ ghost use Rattle.fw_journal.specs.Device.{
   LeavesOnly,
   Keeps,
 };
+ghost use Rattle.fw_journal.specs.Making.{IsTornOf};
 
 use crate::device::JournalDevice;
 use crate::error::DeviceError;
@@ -61,6 +62,10 @@ pub(crate) fn write_synced<D: JournalDevice>(
     ensures moments { IsTrue (D.honest device.old) → at ≤ length (D.contents device.old)
         → IsSynced D.contents D.may_leave device.old
         → LeavesOnly D.moment D.left_since device.old device.new (IsTorn at (length bytes.now) (D.contents device.old)) }
+
+    // Also where it isn't synced.
+    ensures torn { IsTrue (D.honest device.old) → at ≤ length (D.contents device.old)
+        → LeavesOnly D.moment D.left_since device.old device.new (IsTornOf D.JournalDevice at (length bytes.now) device.old) }
     ensures kept { Keeps D.honest D.sound device.old device.new }
     ensures never { IsTrue (D.sound device.old) → ¬ IsErrOf result Fault }
 {

@@ -3,6 +3,7 @@ use Rattle.std.proofs.Common.{◌≡◌, inl, inr, ⊎_elim, ◌⊎◌, ℕ, ◌
 use Rattle.fw_book.specs.Contents.{Contents}
 use Rattle.fw_book.specs.declared.error.BookError.{BookError}
 use Rattle.fw_head.specs.Head.{Head}
+use Rattle.fw_journal.specs.Device.{LeavesOnly, Keeps as DeviceKeeps}
 use Rattle.fw_journal.specs.Journal as journal
 use Rattle.fw_journal.specs.declared.device.JournalDevice
 use Rattle.fw_journal.specs.declared.journal.Journal.{Journal}
@@ -16,8 +17,20 @@ use Rattle.fw_kept.proofs.Heads.{same_also}
 use Rattle.fw_kept.proofs.Puts.{err_same, ok_err}
 
 module _ {D : Type 0} (J : JournalDevice.Ghosts D) (counts : (device : D) (since : ℕ) (left : List ℕ) → since ≤ J.moment device → J.may_leave device left → J.left_since device since left)
-    (only : (device : D) (left : List ℕ) → J.left_since device (J.moment device) left → J.may_leave device left) where
+    (only : (device : D) (left : List ℕ) → J.left_since device (J.moment device) left → J.may_leave device left) (reads : (device : D) → IsTrue (J.honest device) → J.may_leave device (J.contents device)) where
   module _ {E : Type 0} (fault : E) (refusal : Option BookError) (old : KeptHead D) (next : Contents) where
+    -- what a cut may leave may be read
+    read_is : (new : D) → DeviceKeeps J.honest J.sound (journal.device_of old.journal) new → (synced : Contents) → Holds J.honest J.contents J.may_leave old synced
+        → LeavesOnly J.moment J.left_since (journal.device_of old.journal) new (λ left. HasBook old.head.book.head left synced ⊎ HasBook old.head.book.head left next)
+        → HasBook old.head.book.head (J.contents new) synced ⊎ HasBook old.head.book.head (J.contents new) next
+    read_is new kept synced holds leaves =
+        left_is J.moment J.left_since J.may_leave counts (journal.device_of old.journal) new (λ left. HasBook old.head.book.head left synced ⊎ HasBook old.head.book.head left next) leaves (J.contents new)
+        (reads new (subst (λ b. IsTrue b) (sym kept.honesty) holds.keeps.has.honesty))
+
+    put_read : {S : Type 0} (put : Result S E) (after : Journal D) → Puts J fault old.journal put after old.head.book next → (synced : Contents) → Holds J.honest J.contents J.may_leave old synced
+        → HasBook old.head.book.head (J.contents (journal.device_of after)) synced ⊎ HasBook old.head.book.head (J.contents (journal.device_of after)) next
+    put_read put after puts synced holds = read_is (journal.device_of after) puts.kept synced holds (puts.any_moment old.head.book.head synced holds.keeps)
+
     -- it is refused before anything is done
     pub undone : {T : Type 0} (e : E) → (IsTrue (is_broken old) → refusal ≡ None → e ≡ fault) → (e ≡ fault → IsTrue (is_broken old)) → Commits {T = T} J fault refusal old (Err e) old next
     undone e first breaks = record {
@@ -26,6 +39,8 @@ module _ {D : Type 0} (J : JournalDevice.Ghosts D) (counts : (device : D) (since
       unchanged = λ synced holds. inl holds;
       any_moment = λ synced holds.
           nothing_done J.honest J.contents J.may_leave J.moment J.left_since old.head.book.head old.journal synced old.head.book (λ left. HasBook old.head.book.head left next) holds.keeps only;
+      read_back = λ synced holds.
+          inl (left_has J.honest J.contents J.may_leave old.head.book.head old.journal synced old.head.book holds.keeps (J.contents (journal.device_of old.journal)) (reads (journal.device_of old.journal) holds.keeps.has.honesty));
       backed = λ synced holds. holds_backs J.honest J.contents J.may_leave old synced holds;
       stays_backed = λ broken back. back;
       breaks = λ is. breaks (err_same e fault is);
@@ -51,6 +66,7 @@ module _ {D : Type 0} (J : JournalDevice.Ghosts D) (counts : (device : D) (since
       unchanged = λ synced holds.
           ⊎_elim (λ back. inl (record { works = holds.works; keeps = back; offers = holds.offers })) (λ broken. inr (or_right old.broken _ broken)) (puts.unchanged old.head.book.head synced holds.keeps);
       any_moment = λ synced holds. puts.any_moment old.head.book.head synced holds.keeps;
+      read_back = put_read (Err e) after puts;
       backed = λ synced holds. cut_offers (Err e) after also puts synced holds;
       stays_backed = λ broken back. absurd (or_none _ broken works);
       breaks = λ is. or_right old.broken _ (puts.breaks (ap (λ (x : E). Err x) (err_same e fault is)));
@@ -77,6 +93,7 @@ module _ {D : Type 0} (J : JournalDevice.Ghosts D) (counts : (device : D) (since
           left_has J.honest J.contents J.may_leave old.head.book.head after next next (puts.acknowledged old.head.book.head synced holds.keeps) left now;
       unchanged = λ synced holds. tt;
       any_moment = λ synced holds. puts.any_moment old.head.book.head synced holds.keeps;
+      read_back = put_read (Ok unit) after puts;
       backed = λ synced holds. holds_backs J.honest J.contents J.may_leave (record old { head = head; journal = after }) next (done_holds head after unit is number puts synced holds);
       stays_backed = λ broken back. absurd (or_none _ broken works);
       breaks = λ is. absurd (ok_err v fault is);
@@ -93,6 +110,7 @@ module _ {D : Type 0} (J : JournalDevice.Ghosts D) (counts : (device : D) (since
       each_cut = λ synced holds. tt;
       unchanged = λ synced holds. inr refl;
       any_moment = λ synced holds. puts.any_moment old.head.book.head synced holds.keeps;
+      read_back = put_read (Ok unit) after puts;
       backed = λ synced holds left now. subst (λ (h : Head). HasOffers h.book left) (sym is) (cut_offers (Ok unit) after also puts synced holds left now);
       stays_backed = λ broken back. absurd (or_none _ broken works);
       breaks = λ is. absurd (other (err_same e fault is));
@@ -116,6 +134,7 @@ module _ {D E : Type 0} (J : JournalDevice.Ghosts D) (fault : E) (refusal : Opti
     each_cut = commits.each_cut;
     unchanged = λ synced holds. tt;
     any_moment = commits.any_moment;
+    read_back = commits.read_back;
     backed = commits.backed;
     stays_backed = commits.stays_backed;
     breaks = λ is. absurd (ok_err v fault is);
@@ -130,6 +149,7 @@ module _ {D E : Type 0} (J : JournalDevice.Ghosts D) (fault : E) (refusal : Opti
     each_cut = λ synced holds. tt;
     unchanged = commits.unchanged;
     any_moment = commits.any_moment;
+    read_back = commits.read_back;
     backed = commits.backed;
     stays_backed = commits.stays_backed;
     breaks = λ is. commits.breaks (ap (λ (x : E). Err x) (err_same e fault is));

@@ -96,6 +96,9 @@ pub record Commits {D T E : Type 0} (J : JournalDevice.Ghosts D) (fault : E) (re
   -- a cut at any moment of the call leaves the book of the last commit, or that one
   pub any_moment : (synced : Contents) → Holds J.honest J.contents J.may_leave old synced
       → LeavesOnly J.moment J.left_since (device_of old) (device_of new) (λ left. HasBook (book_of old).head left synced ⊎ HasBook (book_of old).head left next)
+  -- and so does the call where it returns, as it is read back without a cut: the process may be killed then
+  pub read_back : (synced : Contents) → Holds J.honest J.contents J.may_leave old synced
+      → HasBook (book_of old).head (J.contents (device_of new)) synced ⊎ HasBook (book_of old).head (J.contents (device_of new)) next
   -- also where nothing is committed from now on: every cut leaves a book that offers what the one in memory does
   pub backed : (synced : Contents) → Holds J.honest J.contents J.may_leave old synced → IsBacked J.may_leave new
   pub stays_backed : IsTrue (is_broken old) → IsBacked J.may_leave old → IsBacked J.may_leave new

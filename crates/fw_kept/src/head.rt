@@ -31,6 +31,7 @@ ghost use Rattle.fw_head.specs.Head.{sends_to, ticked_head, HeadHears, IsDoneBy,
 ghost use Rattle.fw_journal.specs.Book.{IsBadBook, Drops};
 ghost use Rattle.fw_journal.specs.Device.{Keeps as DeviceKeeps};
 ghost use Rattle.fw_journal.specs.Keeping.{KeepsFirst};
+ghost use Rattle.fw_journal.specs.Making.{LeavesMaking};
 ghost use Rattle.fw_journal.specs.Refusals.{IsMakingRefusal};
 ghost use Rattle.fw_ledger.specs.Replay.{Makes};
 ghost use Rattle.fw_ledger.specs.View.{entry_of};
@@ -89,7 +90,7 @@ impl<D: JournalDevice> KeptHead<D> {
     ghost use Rattle.fw_kept.specs.Refusals.{IsRefusedFor, IsCommitRefusal};
 
     /// Makes a head end of no campaign, that sends up to `width` blocks at a time, with its book on a device without bytes, and syncs it. A
-    /// power cut in the call leaves any bytes, so that a file is made beside, and renamed then.
+    /// power cut in the call leaves up to five bytes of any value, so that a file is made beside, and renamed then.
     ///
     /// # Errors
     ///
@@ -107,6 +108,10 @@ impl<D: JournalDevice> KeptHead<D> {
         ensures not_empty { IsTrue (D.honest device) → IfErr result (λ e. e.0 ≡ JournalError.NotEmpty
             → (D.contents device ≢ []) × (D.contents e.1 ≡ D.contents device)) }
         ensures memory { IsTrue (D.honest device) → IfErr result (λ e. e.0 ≡ JournalError.OutOfMemory → D.contents device ≡ []) }
+
+        // A cut at any moment of the call leaves what one before it might have left, with any bytes for its first five.
+        ensures any_moment { IsTrue (D.honest device) → IfOk result (λ kept. LeavesMaking D.JournalDevice device (device_of kept)) }
+        ensures any_moment_err { IsTrue (D.honest device) → IfErr result (λ e. LeavesMaking D.JournalDevice device e.1) }
         ensures never { IsTrue (D.sound device) → IfErr result (λ e. e.0 ≢ JournalError.BookFault) }
         ensures refusals { IfErr result (λ e. IsMakingRefusal e.0) }
         ensures kept { IfOk result (λ kept. DeviceKeeps D.honest D.sound device (device_of kept)) }

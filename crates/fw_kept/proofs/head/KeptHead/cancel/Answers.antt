@@ -20,7 +20,7 @@ returns-in_err-cancelling-clause-commits g c =
     let refusal = c.in_err-cancelling.field-0.0 in
     let same : c.from_residual.result ≡ Err refusal = search rules in
     subst (λ r. Commits J BookFault first old r old next) (sym same)
-    (undone J met.counts_now met.only_now BookFault first old next refusal (λ broken none. err_is refusal BookFault (c.in_err-cancelling.ensures.broken broken none))
+    (undone J met.counts_now met.only_now met.reads_may_be_left BookFault first old next refusal (λ broken none. err_is refusal BookFault (c.in_err-cancelling.ensures.broken broken none))
     (λ is. c.in_err-cancelling.ensures.fault (ap (λ (e : KeptError). Err e) is)))
 
 pub returns-in_err-put-clause-refused : goal.returns-in_err-put-clause-refused
@@ -40,7 +40,7 @@ returns-in_err-put-clause-commits g c =
     let refusal = c.in_err-put.field-0.0 in
     let same : c.from_residual-in_err-put.result ≡ Err refusal = search rules in
     subst (λ r. Commits J BookFault first old r (record old { journal = c.put.new.journal }) next) (sym same)
-    (fails J met.counts_now met.only_now BookFault first old next c.put.new.journal refusal c.in_ok-cancelling.ensures.works (cancelled_also old.head.book c.args.serial)
+    (fails J met.counts_now met.only_now met.reads_may_be_left BookFault first old next c.put.new.journal refusal c.in_ok-cancelling.ensures.works (cancelled_also old.head.book c.args.serial)
     (c.in_err-put.ensures.puts old.head.book next c.in_ok-cancelling.ensures.makes))
 
 pub returns-in_err-put-clause-full : goal.returns-in_err-put-clause-full
@@ -55,5 +55,5 @@ returns-clause-commits g c =
     let old = c.args.self.now in
     let first = cancel_refusal old.head.book (campaign_at old.head c.args.serial) in
     let next = cancelled old.head.book c.args.serial in
-    done g.D.JournalDevice met.counts_now met.only_now BookFault first old next c.cancel.new.self c.put.new.journal tt tt c.in_ok-cancelling.ensures.works
+    done g.D.JournalDevice met.counts_now met.only_now met.reads_may_be_left BookFault first old next c.cancel.new.self c.put.new.journal tt tt c.in_ok-cancelling.ensures.works
     (ap (λ (h : Head). h.book) c.in_ok-cancel.ensures.cancelled) refl (c.in_ok-put.ensures.puts old.head.book next c.in_ok-cancelling.ensures.makes)

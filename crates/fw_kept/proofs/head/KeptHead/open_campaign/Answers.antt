@@ -20,7 +20,7 @@ returns-in_err-opening-clause-commits g c =
     let refusal = c.in_err-opening.field-0.0 in
     let same : c.from_residual.result ≡ Err refusal = search rules in
     subst (λ r. Commits J BookFault first old r old next) (sym same)
-    (undone J met.counts_now met.only_now BookFault first old next refusal (λ broken none. err_is refusal BookFault (c.in_err-opening.ensures.broken broken none))
+    (undone J met.counts_now met.only_now met.reads_may_be_left BookFault first old next refusal (λ broken none. err_is refusal BookFault (c.in_err-opening.ensures.broken broken none))
     (λ is. c.in_err-opening.ensures.fault (ap (λ (e : KeptError). Err e) is)))
 
 pub returns-in_err-put-clause-refused : goal.returns-in_err-put-clause-refused
@@ -40,7 +40,7 @@ returns-in_err-put-clause-commits g c =
     let refusal = c.in_err-put.field-0.0 in
     let same : c.from_residual-in_err-put.result ≡ Err refusal = search rules in
     subst (λ r. Commits J BookFault first old r (record old { journal = c.put.new.journal }) next) (sym same)
-    (fails J met.counts_now met.only_now BookFault first old next c.put.new.journal refusal c.in_ok-opening.ensures.works
+    (fails J met.counts_now met.only_now met.reads_may_be_left BookFault first old next c.put.new.journal refusal c.in_ok-opening.ensures.works
     (opened_also old.head.book c.args.serial c.args.release c.args.image.now c.args.meters.now) (c.in_err-put.ensures.puts old.head.book next c.in_ok-opening.ensures.makes))
 
 pub returns-in_err-put-clause-full : goal.returns-in_err-put-clause-full
@@ -55,7 +55,7 @@ returns-in-Ok-clause-commits g c =
     let old = c.args.self.now in
     let first = opening_refusal old.head.book (campaign_at old.head c.args.serial) c.args.image.now c.args.meters.now in
     let next = opened old.head.book c.args.serial c.args.release c.args.image.now c.args.meters.now in
-    done g.D.JournalDevice met.counts_now met.only_now BookFault first old next c.open_campaign.new.self c.put.new.journal c.in-Ok.name tt c.in_ok-opening.ensures.works
+    done g.D.JournalDevice met.counts_now met.only_now met.reads_may_be_left BookFault first old next c.open_campaign.new.self c.put.new.journal c.in-Ok.name tt c.in_ok-opening.ensures.works
     (ap (λ (h : Head). h.book) c.in-Ok.ensures.opened) refl (c.in_ok-put.ensures.puts old.head.book next c.in_ok-opening.ensures.makes)
 
 pub returns-clause-commits : goal.returns-clause-commits
@@ -64,5 +64,5 @@ returns-clause-commits g c =
     let old = c.args.self.now in
     let first = opening_refusal old.head.book (campaign_at old.head c.args.serial) c.args.image.now c.args.meters.now in
     let next = opened old.head.book c.args.serial c.args.release c.args.image.now c.args.meters.now in
-    lost g.D.JournalDevice met.counts_now met.only_now BookFault first old next c.open_campaign.new.self c.put.new.journal OutOfMemory tt c.in_ok-opening.ensures.works (λ is. cc is)
+    lost g.D.JournalDevice met.counts_now met.only_now met.reads_may_be_left BookFault first old next c.open_campaign.new.self c.put.new.journal OutOfMemory tt c.in_ok-opening.ensures.works (λ is. cc is)
     (opened_also old.head.book c.args.serial c.args.release c.args.image.now c.args.meters.now) c.in-Err.ensures.same (c.in_ok-put.ensures.puts old.head.book next c.in_ok-opening.ensures.makes)
