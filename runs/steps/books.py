@@ -4,6 +4,7 @@ Which books may be there at a moment follows from what was asked for, from how t
 that were told. What a file holds is read here, as docs/BOOK.md and docs/FORMATS.md spell it. hostile/book does both.
 """
 
+import itertools
 import random
 import signal
 
@@ -17,7 +18,7 @@ book.CHOICES, book.LONGEST = 8, 20
 BOOK, HEAD = book.BOOK, str(book.HEAD)
 
 # A new book, and a campaign for a meter that takes the image, eleven that refuse it, and one that never answers. Then it is cancelled, and
-# another one is opened for the first meter. Rows that ended are more than half of the book by then, so that it is written anew first.
+# another one is opened for the first meter, once the book is written anew. Rows that ended are more than half of it by then.
 FIRST = book.Run((1, *range(61, 72), 101), new=True, open=(1, 5, b"the first image"))
 NEXT = book.Run((1,), cancel=1, open=(2, 0, b"another image"))
 
@@ -71,9 +72,10 @@ def words_of(*more):
     return ["head", "--head", HEAD, "--book", BOOK, "--meters", "meters.csv", "--listen", "127.0.0.1:0", *more]
 
 
-# To be seen: an opening that doesn't sync what it reads.
-def a_book_is_synced_before_it_is_led(place):
-    """A head end that is killed before the last sync of an opening is started again: nothing is sent until a cut leaves what it reads."""
+# To be seen: an opening that neither syncs what it reads nor writes it anew, or leads the file of the process before it.
+def a_book_is_written_anew_before_it_is_led(place):
+    """A head end that is killed before the last sync of an opening is started again: nothing is sent until a cut leaves what it reads, in a
+    new file."""
     meter = bound()
     new = words_of("--new", "--open", "1", "--release", "5", "--image", "image")
     opened = (book.Campaign(1, 5, b"image", ((1, book.LIVE),)),)
@@ -99,10 +101,10 @@ def a_book_is_synced_before_it_is_led(place):
         meter.recv(65535)
     with recording(place, place.folder / "killed", *words_of()) as (process, calls_of):
         wants(comes_in(meter, PATIENCE), "nothing is sent")
-        for one in calls_of():
-            if one[0] == "send":
-                break
-            disk.take(*one)
+        before = list(itertools.takewhile(lambda one: one[0] != "send", calls_of()))
+    for one in before:
+        disk.take(*one)
+    wants(sum(one[0] == "rename" for one in before) == 1, "the file is led that another process wrote")
     wants({held(left) for left in lefts(disk)} == {opened}, "what is sent is of a campaign that a cut may take away")
 
 
@@ -111,4 +113,4 @@ def held(state):
     return book.read(dict(state)[BOOK])
 
 
-STEPS = [books_outlive_cuts, a_book_is_synced_before_it_is_led]
+STEPS = [books_outlive_cuts, a_book_is_written_anew_before_it_is_led]

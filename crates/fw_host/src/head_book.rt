@@ -7,7 +7,7 @@ ghost use Rattle.fw_disk.specs.declared.name.Name.TheVariants.{Main};
 ghost use Rattle.fw_head.specs.Head.{BeginsWith, new_head};
 ghost use Rattle.fw_journal.specs.Book.{Drops};
 ghost use Rattle.fw_journal.specs.Refusals.{IsFileRefusal};
-ghost use Rattle.fw_kept.specs.Head.{book_of, head_of};
+ghost use Rattle.fw_kept.specs.Head.{book_of, device_of, head_of};
 ghost use Rattle.fw_kept.specs.Kept.{HasForeign};
 ghost use Rattle.fw_host.specs.Heads.{IsOfBook, IsOfOldBook};
 
@@ -15,12 +15,13 @@ use crate::files::{folder_of, is_missing};
 use crate::head_dropped::DroppedFile;
 use crate::head_new_book::make;
 use fw_blocks::Width;
-use fw_book::Book;
 use fw_disk::{Because, Cause, Name, SystemFolder};
 use fw_faults::Fault;
-use fw_journal::{FileDevice, FileReplacer, JournalDevice, JournalError, Keeper, RewriteError};
+use fw_journal::{
+    FileDevice, FileReplacer, JournalDevice, JournalError, Keeper, Replacer, RewriteError,
+};
 use fw_kept::KeptHead;
-use fw_names::{CampaignId, HeadId};
+use fw_names::HeadId;
 use std::alloc::Global;
 use std::fs::File;
 use std::rt::Files;
@@ -34,25 +35,20 @@ pub struct BookOptions<'a> {
     pub is_new: bool,
 }
 
-/// About how many bytes the records of a campaign have in a book that was written anew, without its image and its rows.
-const CAMPAIGN_SIZE: u64 = 150;
-
-/// And each of its rows.
-const ROW_SIZE: u64 = 5;
-
 /// The head end of this number whose book is in the file. A new one is made as FILE.new, and named FILE once the disk has all of it. So
-/// is one that is there, where it is written anew. A file that is named FILE.new and is no journal is left as it is.
+/// is one that is there: it is written anew before it is led. Whoever had it before may have ended since the disk failed, and then a sync
+/// of the old file may return `Ok` though a part of it isn't on the disk. A file that is named FILE.new and is no journal is left as it is.
 ///
 /// What is cut off a book that is there, and reads as records, is kept in FILE.dropped first, and standard error is told how many records
 /// that are. Where that can't be, nothing is cut off.
 ///
 /// # Errors
 ///
-/// - `Locked`: another head end has the book. `BookFault`: its file can't be made, opened, read, written or synced, or what is to be cut off
-///   it can't be kept. Both have their reason, if it is known.
+/// - `Locked`: another head end has the book. `BookFault`: its file can't be made, opened, read, written or synced, it can't be written anew
+///   as FILE.new, or what is to be cut off it can't be kept. Both have their reason, if it is known.
 /// - Of a book that is there `NoBook`, `BadBook`, `BadRecord` and `ForeignHead`: the file has no book that this head end may begin with.
 ///   It is left as it is, or as a journal of the same records.
-/// - Of a new one `BookExists`; and `BookFault` where another file is named FILE.new.
+/// - Of a new one `BookExists`.
 /// - `OutOfMemory`.
 pub fn kept_head<F: Files<File = File> + Eprint>(
     rt: &F,
@@ -88,19 +84,19 @@ fn open<F: Files<File = File> + Eprint>(
     ensures faults { IfErr result (λ b. IsOfOldBook b.error) }
 {
     let mut folder = folder_of(rt, path, Fault::BookFault)?;
-    let mut device = match old_device(&mut folder) {
+    let device = match old_device(&mut folder) {
         Ok(device) => device,
         Err(because) => return Err(not_opened(because)),
     };
-    // A file whose length can't be told isn't written anew.
-    let size = device.len().unwrap_or(0);
-    let mut keeper = DroppedFile::new(rt, alloc, path);
-    let mut kept = match book_on(alloc, head, width, device, &mut keeper) {
-        Ok(kept) => kept,
-        Err((fault, device)) => return Err(told(fault, device.cause())),
+    let mut replacer = match FileReplacer::of(rt, path) {
+        Ok(replacer) => replacer,
+        Err(cause) => return Err(told(Fault::BookFault, Name::Main, Some(cause))),
     };
-    compact(rt, alloc, path, size, &mut kept)?;
-    Ok(kept)
+    let mut keeper = DroppedFile::new(rt, alloc, path);
+    match anew_on(alloc, head, width, device, &mut keeper, &mut replacer) {
+        Ok(kept) => Ok(kept),
+        Err((fault, file, device)) => Err(told(fault, file, device.cause())),
+    }
 }
 
 /// FILE, opened. If another process put a new file in its place meanwhile, the lock of that one tells so.
@@ -134,67 +130,60 @@ fn not_opened(because: Because<JournalError>) -> Because<Fault>
     }
 }
 
-/// A fault of the book in FILE, and why the last call of its device that failed did, if the fault may be of that.
-fn told(fault: Fault, cause: Option<Cause>) -> Because<Fault>
+/// A fault of the book in this file, and why the last call of its device that failed did, if the fault may be of that.
+fn told(fault: Fault, file: Name, cause: Option<Cause>) -> Because<Fault>
     ensures error { result.error ≡ fault }
-    ensures reason { fault ≡ Fault.BookFault → result.reason ≡ option_map (λ c. record { name = Main; cause = c }) cause }
+    ensures reason { fault ≡ Fault.BookFault → result.reason ≡ option_map (λ c. record { name = file; cause = c }) cause }
     ensures others { fault ≢ Fault.BookFault → result.reason ≡ None }
 {
     match (fault, cause) {
-        (Fault::BookFault, Some(cause)) => Because::of(fault, cause.at(Name::Main)),
+        (Fault::BookFault, Some(cause)) => Because::of(fault, cause.at(file)),
         _ => Because::from(fault),
     }
 }
 
-/// Writes the book of a file of this size anew, where that takes more than half of its bytes away. The head end is the same, and so is its
-/// book, whether that is done or not, also where it is refused.
-fn compact<F: Files<File = File>>(
-    rt: &F,
+/// The head end of this number whose book is on a device, once that is written anew: all that the device has then was written and synced
+/// since it was opened. A refusal has the fault, which file it is about, FILE or FILE.new, and the device.
+fn anew_on<D: JournalDevice + Drop, K: Keeper, R: Replacer<D>>(
     alloc: Global,
-    path: &str,
-    size: u64,
-    kept: &mut KeptHead<FileDevice>,
-) -> Result<(), Because<Fault>>
-    ensures same { head_of kept.new ≡ head_of kept.old }
-    ensures faults { IfErr result (λ b. IsOfOldBook b.error) }
+    head: HeadId,
+    width: Width,
+    device: D,
+    keeper: &mut K,
+    replacer: &mut R,
+) -> Result<KeptHead<D>, (Fault, Name, D)>
+    ensures begun { IfOk result (λ kept. BeginsWith (book_of kept) width (head_of kept)) }
+    ensures number { IfOk result (λ kept. (book_of kept).head ≡ head) }
+    ensures anew { IfOk result (λ kept. R.made replacer.new (device_of kept)) }
+    ensures faults { IfErr result (λ e. IsOfOldBook e.0) }
 {
-    if size / 2 <= size_anew(alloc, kept.head().view().book)? {
-        return Ok(());
-    }
-    let mut replacer = match FileReplacer::of(rt, path) {
-        Ok(replacer) => replacer,
-        Err(cause) => return Err(told(Fault::BookFault, Some(cause))),
+    let mut kept = match book_on(alloc, head, width, device, keeper) {
+        Ok(kept) => kept,
+        Err((fault, device)) => return Err((fault, Name::Main, device)),
     };
-    match kept.compact(alloc, &mut replacer) {
-        // Where no file can be made beside it, the book goes on in the old one.
-        Ok(()) | Err(RewriteError::NotReplaced) => Ok(()),
-        Err(RewriteError::BookFault) => Err(told(Fault::BookFault, kept.device().cause())),
-        Err(RewriteError::OutOfMemory) => Err(Because::from(Fault::OutOfMemory)),
+    match write_anew(alloc, replacer, &mut kept) {
+        Ok(()) => Ok(kept),
+        Err((fault, file)) => Err((fault, file, kept.into_device())),
     }
 }
 
-/// About how many bytes a book has that was written anew. Images count once each.
-fn size_anew(alloc: Global, book: &Book) -> Result<u64, Fault>
-    ensures { IfErr result (λ f. f ≡ Fault.OutOfMemory) }
+/// Writes the book of a head end anew. The head end is the same, also where that is refused. The fault is about FILE, or about FILE.new,
+/// where that can't be made.
+fn write_anew<D: JournalDevice, R: Replacer<D>>(
+    alloc: Global,
+    replacer: &mut R,
+    kept: &mut KeptHead<D>,
+) -> Result<(), (Fault, Name)>
+    ensures anew { OnOk result (R.made replacer.new (device_of kept.new)) }
+    ensures same { head_of kept.new ≡ head_of kept.old }
+    ensures faults { IfErr result (λ e. IsOfOldBook e.0) }
 {
-    let mut images = Vec::new(alloc);
-    let mut size = 0u64;
-    for (serial, offer) in book.rows() {
-        let rows = ROW_SIZE.saturating_mul(offer.rows().len() as u64);
-        size = size.saturating_add(CAMPAIGN_SIZE).saturating_add(rows);
-        let digest = digest_in(book, *serial);
-        if !images.iter().any(|image| *image == digest) {
-            images.push(digest)?;
-            size = size.saturating_add(offer.image().len() as u64);
-        }
+    match kept.compact(alloc, replacer) {
+        Ok(()) => Ok(()),
+        Err(RewriteError::NotReplaced) => Err((Fault::BookFault, Name::New)),
+        Err(RewriteError::BookFault) => Err((Fault::BookFault, Name::Main)),
+        Err(RewriteError::OutOfMemory) => Err((Fault::OutOfMemory, Name::Main)),
     }
-    Ok(size)
-}
-
-/// The digest of the image that the campaign with this serial number offers.
-fn digest_in(book: &Book, serial: u32) -> Option<[u8; 32]> {
-    let name = book.name(CampaignId::new(book.head(), serial)?)?;
-    Some(name.digest)
 }
 
 /// The head end of this number whose book is on a device. `ForeignHead` says that it is another head end's. The device is returned then.

@@ -3,7 +3,7 @@ use Rattle.std.proofs.Common.{◌≡◌, inl, inr, ⊎_elim, ℕ, zero, suc, ◌
 use Rattle.std.proofs.lemmas.Bool.{cases_lt, cond-true, cond-false}
 use Rattle.std.proofs.lemmas.List.{take_all, drop_all, drop-drop, take-map, drop-map, length-map}
 use Rattle.fw_journal.specs.Device.{splice, IsTorn, IsShortened}
-use Rattle.fw_journal.specs.Past.{LeavesOf, LeavesOfAll, AreBytes, fated, fated_all}
+use Rattle.fw_journal.specs.Past.{LeavesOf, LeavesOfAll, AreBytes, fated, fated_all, first_fate}
 use Rattle.fw_journal.specs.Laws.{EachIsCut}
 use Rattle.fw_journal.specs.declared.disk.Change.{Change}
 use Rattle.fw_journal.specs.declared.disk.Change.TheVariants.{Write, Shorten}
@@ -15,6 +15,15 @@ fated_after at size fate old after = cond-true (nat_lt (length old) at) old (spl
 
 pub fated_within : (at size : ℕ) (fate old : List ℕ) → at ≤ length old → fated (Write at size) fate old ≡ splice old at (take size fate)
 fated_within at size fate old within = cond-false (nat_lt (length old) at) old (splice old at (take size fate)) (le-ltb (length old) at within)
+
+-- what one change more leaves
+pub next_fated : (change : Change) (others later : List Change) (rest more : List (List ℕ)) (fate left next last : List ℕ) → later ≡ change ∷ others → more ≡ drop 1 rest → fate ≡ first_fate rest → next ≡ fated change fate left
+    → fated_all later rest left ≡ last → fated_all others more next ≡ last
+next_fated change others later rest more fate left next last split more_is fate_is next_is was =
+    ap (λ (l : List (List ℕ)). fated_all others l next) more_is
+    ∙ ap (λ (l : List ℕ). fated_all others (drop 1 rest) l) (next_is ∙ ap (λ (l : List ℕ). fated change l left) fate_is)
+    ∙ ap (λ (l : List Change). fated_all l rest left) (sym split)
+    ∙ was
 
 -- and what a shortening with one
 

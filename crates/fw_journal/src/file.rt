@@ -204,6 +204,10 @@ impl<'a, R: Files<File = File>> FileReplacer<'a, R> {
 }
 
 impl<'a, R: Files<File = File>> Replacer<FileDevice> for FileReplacer<'a, R> {
+    ghost use Rattle.std.specs.Prelude.{⊤};
+
+    ghost made = { λ _ _. ⊤ };
+
     fn replace(&mut self, device: &mut FileDevice, bytes: &[u8]) -> Result<(), ReplaceError> {
         device.replace_in(&mut self.folder, bytes)?;
         Ok(())

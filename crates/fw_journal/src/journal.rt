@@ -336,6 +336,7 @@ impl<D: JournalDevice> Journal<D> {
             → OnOk result (Has D.honest D.contents D.may_leave self.new (contents_of records.now) []) }
         ensures each_cut { IsTrue (D.honest (device_of self.old))
             → OnOk result ((left : List ℕ) → D.may_leave (device_of self.new) left → Stands left (contents_of records.now)) }
+        ensures anew { OnOk result (R.made replacer.new (device_of self.new)) }
         ensures unchanged { (done waiting : List (List ℕ)) → Has D.honest D.contents D.may_leave self.old done waiting
             → OnErr result (Has D.honest D.contents D.may_leave self.new done waiting ⊎ IsTrue (is_broken self.new)) }
 

@@ -129,6 +129,10 @@ fn overwrite(
 pub struct MemoryReplacer;
 
 impl Replacer<MemoryDevice> for MemoryReplacer {
+    ghost use Rattle.fw_journal.specs.Memory.{held_of};
+
+    ghost made = { λ _ device. (held_of device).changes ≡ [] };
+
     fn replace(&mut self, device: &mut MemoryDevice, bytes: &[u8]) -> Result<(), ReplaceError> {
         if burn(&mut device.fuse).is_err() {
             return Err(ReplaceError::NotReplaced);

@@ -10,6 +10,9 @@ use crate::error::ReplaceError;
 /// A way to put other bytes in the place of all those of a device. The new bytes are made beside the old ones, so that a power cut leaves
 /// what it might have left before, or the new bytes whole.
 pub trait Replacer<D: JournalDevice> {
+    /// Whether it has made all that the device has, in the place of what was there.
+    ghost made: { Self → D → Type 0 };
+
     /// Puts these bytes in the place of those of the device, and syncs them. From `Ok` on every power cut leaves them.
     ///
     /// # Errors
@@ -19,6 +22,9 @@ pub trait Replacer<D: JournalDevice> {
     fn replace(&mut self, device: &mut D, bytes: &[u8]) -> Result<(), ReplaceError>
         ensures done { IsTrue (D.honest device.old) → OnOk result (D.contents device.new ≡ bytes.now) }
         ensures synced { IsTrue (D.honest device.old) → OnOk result (IsSynced D.contents D.may_leave device.new) }
+
+        // Whatever the device is.
+        ensures anew { OnOk result (made self.new device.new) }
         ensures same { IsTrue (D.honest device.old) → IsErrOf result NotReplaced
             → (D.contents device.new ≡ D.contents device.old) × LeavesNoMore D.may_leave device.old device.new }
 

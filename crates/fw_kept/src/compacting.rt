@@ -1,6 +1,6 @@
 //! How the journal of a book is written anew.
 
-ghost use Rattle.std.specs.Prelude.{◌≡◌, false, IsErrOf, IsTrue};
+ghost use Rattle.std.specs.Prelude.{◌≡◌, false, IsErrOf, IsTrue, OnOk};
 ghost use Rattle.fw_journal.specs.Journal.{device_of, is_broken};
 ghost use Rattle.fw_kept.specs.Private.{Puts};
 
@@ -17,6 +17,7 @@ pub(crate) fn write_anew<D: JournalDevice, R: Replacer<D>>(
     book: &Book,
 ) -> Result<(), RewriteError>
     ensures puts { Puts D.JournalDevice RewriteError.BookFault journal.old result journal.new book.now book.now }
+    ensures anew { OnOk result (R.made replacer.new (device_of journal.new)) }
     ensures goes_on { IsErrOf result RewriteError.NotReplaced → is_broken journal.new ≡ false }
     ensures replaced { IsTrue (D.sound (device_of journal.old)) → ¬ IsErrOf result RewriteError.NotReplaced }
 {

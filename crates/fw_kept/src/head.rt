@@ -481,6 +481,7 @@ impl<D: JournalDevice> KeptHead<D> {
     ) -> Result<(), RewriteError>
         ensures head { head_of self.new ≡ head_of self.old }
         ensures commits { Commits D.JournalDevice RewriteError.BookFault None self.old result self.new (book_of self.old) }
+        ensures anew { OnOk result (R.made replacer.new (device_of self.new)) }
         ensures goes_on { IsErrOf result RewriteError.NotReplaced → is_broken self.new ≡ false }
         ensures replaced { IsTrue (D.sound (device_of self.old)) → ¬ IsErrOf result RewriteError.NotReplaced }
     {

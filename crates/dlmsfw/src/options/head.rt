@@ -25,8 +25,8 @@ address of the family of --listen is taken, IPv4 or IPv6. A datagram from elsewh
 from an address of the list is taken for that meter's.
 
 The book of the head end is in FILE of --book, and stays there for the next run. It is made with --new,
-and only where no such file is there: as FILE.new, which is named FILE once it is whole. So is a shorter
-FILE of the same book, which a run may begin with. A file that is named FILE.new is written over if it has
+and only where no such file is there: as FILE.new, which is named FILE once it is whole. So is a new FILE
+of the same book, with which each later run begins. A file that is named FILE.new is written over if it has
 five bytes at most or begins as a book does; any other stays as it is.
 One process at a time has a FILE. A head end whose book is lost goes on under another number, never
 under the same.
@@ -99,8 +99,8 @@ Exit status:
        BookFault       FILE can't be made, opened, read or written: there is no such folder, FILE is a
                        folder or a link or has a second name, this user may not write it, the disk is
                        full or failed or may only be read, too many files are open, FILE.dropped is
-                       needed and can't be made, or --new is given and another program's file is named
-                       FILE.new
+                       needed and can't be made, or FILE.new can't be made, as where another program's
+                       file is named so
        BadBook N       the bytes of FILE from offset N on are no book's: they were changed
        BadRecord N     record N of FILE, counted from 0, has no place in a book
        ForeignHead     FILE is the book of another head end than that of --head
