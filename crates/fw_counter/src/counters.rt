@@ -24,7 +24,7 @@ ghost use Rattle.fw_journal.specs.Book.{Drops, Stands};
 ghost use Rattle.fw_journal.specs.Device.{LeavesOnly, Keeps};
 ghost use Rattle.fw_journal.specs.Keeping.{KeepsFirst};
 ghost use Rattle.fw_journal.specs.Refusals.{IsMakingRefusal};
-ghost use Rattle.fw_counter.specs.Moves.{Counter, Move, Goes, MovesLead, limit, reserved_after, taken};
+ghost use Rattle.fw_counter.specs.Moves.{Counter, Goes, MovesLead, uses, reserves, killed, limit, reserved_after, taken};
 ghost use Rattle.fw_counter.specs.Reserved.{HasNoCounter, HasReserved, Reserves};
 ghost use Rattle.fw_counter.specs.Refusals.{IsOpeningRefusal, IsTakingRefusal};
 
@@ -109,7 +109,7 @@ impl<D: JournalDevice> Counters<D> {
 
         // What is opened goes on with the counter of those whose kill or whose cut left the bytes.
         ensures goes { IsTrue (D.honest device) → (used : List ℕ) (before : Counter) → HasReserved (D.contents device) before.reserved
-            → IfOk result (λ counters. Goes used before (Move.killed (counter_of counters).reserved) used (counter_of counters)) }
+            → IfOk result (λ counters. Goes used before (killed (counter_of counters).reserved) used (counter_of counters)) }
         ensures none { IsTrue (D.honest device) → IfErr result (λ e. e.0 ≡ CounterError.NoCounter → HasNoCounter (D.contents device)) }
 
         // A cut at any moment of the call leaves what one before it might have left, or a journal of the same records.
@@ -181,7 +181,7 @@ impl<D: JournalDevice> Counters<D> {
 
         // It is a reservation, which may be of none, and then a use.
         ensures goes { (used : List ℕ) → IfOk result (λ number. MovesLead used (counter_of self.old)
-            (Move.reserves (reserved_after (counter_of self.old)) ∷ Move.uses ∷ []) (number ∷ used) (counter_of self.new)) }
+            (reserves (reserved_after (counter_of self.old)) ∷ uses ∷ []) (number ∷ used) (counter_of self.new)) }
 
         // From `Ok` on every power cut leaves records that reserve more than this number.
         ensures each_cut { IsKept D.JournalDevice self.old
@@ -191,7 +191,7 @@ impl<D: JournalDevice> Counters<D> {
         // what was reserved before at least.
         ensures any_moment { Holds D.JournalDevice self.old → LeavesOnly D.moment D.left_since (device_of self.old) (device_of self.new)
             (λ left. Reserves left (counter_of self.old).reserved ⊎ Reserves left (reserved_after (counter_of self.old))) }
-        ensures killed { IsKept D.JournalDevice self.old → LeavesOnly D.moment D.left_since (device_of self.old) (device_of self.new)
+        ensures leaves { IsKept D.JournalDevice self.old → LeavesOnly D.moment D.left_since (device_of self.old) (device_of self.new)
             (λ left. HasReserved left (counter_of self.old).reserved) }
         ensures acknowledged { Holds D.JournalDevice self.old → OnOk result (Holds D.JournalDevice self.new) }
         ensures stays { IsKept D.JournalDevice self.old → IsKept D.JournalDevice self.new }
@@ -229,7 +229,7 @@ impl<D: JournalDevice> Counters<D> {
         ensures same { OnErr result (counter_of self.new ≡ counter_of self.old) }
         ensures any_moment { Holds D.JournalDevice self.old → LeavesOnly D.moment D.left_since (device_of self.old) (device_of self.new)
             (λ left. Reserves left (counter_of self.old).reserved ⊎ Reserves left (reserved_after (counter_of self.old))) }
-        ensures killed { IsKept D.JournalDevice self.old → LeavesOnly D.moment D.left_since (device_of self.old) (device_of self.new)
+        ensures leaves { IsKept D.JournalDevice self.old → LeavesOnly D.moment D.left_since (device_of self.old) (device_of self.new)
             (λ left. HasReserved left (counter_of self.old).reserved) }
         ensures acknowledged { Holds D.JournalDevice self.old → OnOk result (Holds D.JournalDevice self.new) }
         ensures stays { IsKept D.JournalDevice self.old → IsKept D.JournalDevice self.new }
