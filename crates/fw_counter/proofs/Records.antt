@@ -4,9 +4,13 @@ use Rattle.std.specs.Int.{w32, to_be_bytes, from_be_bytes}
 use Rattle.std.proofs.lemmas.Nat.{from_be_bytes-to_be_bytes_4}
 use Rattle.fw_journal.specs.Laws.{OneReading, BadIsNone}
 use Rattle.fw_journal.specs.Book.{Stands, IsBadBook}
-use Rattle.fw_counter.specs.Reserved.{AreReservations, reserved_by, Reserves, HasNoCounter}
+use Rattle.fw_journal.specs.declared.error.JournalError.{JournalError}
+use Rattle.fw_journal.specs.declared.error.JournalError.TheVariants as journal
+use Rattle.fw_counter.specs.Reserved.{AreReservations, reserved_by, Reserves, HasReserved, HasNoCounter}
 use Rattle.fw_counter.specs.Moves.{Counter, range, limit, reserved_after}
 use Rattle.fw_counter.specs.Laws.{OneBound}
+use Rattle.fw_counter.specs.Refusals.{counter_error}
+use Rattle.fw_counter.specs.declared.error.CounterError.TheVariants.{NoCounter}
 
 pub fit_push : (done : List (List ℕ)) (entry : List ℕ) → AreReservations done → length entry ≡ 4 → AreReservations (done ++ entry ∷ [])
 fit_push [] entry fit size = (size, tt)
@@ -36,6 +40,12 @@ one_bound reading = λ bytes a b some others.
     let same = reading bytes some.records others.records some.stands others.stands in
     some.bound_is ∙ ap (λ (l : List (List ℕ)). reserved_by l) same ∙ sym others.bound_is
 
+-- what the records of the bytes reserve is no less than what these are known to
+pub begins_behind : OneReading → (bytes : List ℕ) (records : List (List ℕ)) (n bound : ℕ) → Stands bytes records → bound ≡ reserved_by records → HasReserved bytes n → n ≤ bound
+begins_behind reading bytes records n bound stands found has =
+    let same = reading bytes has.reserves.records records has.reserves.stands stands in
+    omega (arith, found, has.enough, has.reserves.bound_is, ap (λ (l : List (List ℕ)). reserved_by l) same)
+
 -- bytes that are no journal's reserve none, nor do those of a journal with another record
 pub bad_reserves_none : BadIsNone → (bytes : List ℕ) (offset : ℕ) → IsBadBook bytes offset → HasNoCounter bytes
 bad_reserves_none bad bytes offset is = λ bound reserves. bad bytes offset reserves.records is reserves.stands
@@ -50,3 +60,12 @@ used_after c le = search (rules, le)
 
 pub ok_err : {T E : Type 0} (v : T) (e : E) → IsErrOf (Ok v) e → ⊥
 ok_err v e is = absurd (cc is)
+
+pub bad_of : (refusal : JournalError) → counter_error refusal ≡ NoCounter → (offset : ℕ) × (refusal ≡ journal.BadBook offset)
+bad_of (journal.BadBook offset) is = (offset, refl)
+bad_of journal.NotEmpty is = absurd (cc is)
+bad_of journal.TooLong is = absurd (cc is)
+bad_of journal.Full is = absurd (cc is)
+bad_of journal.Locked is = absurd (cc is)
+bad_of journal.BookFault is = absurd (cc is)
+bad_of journal.OutOfMemory is = absurd (cc is)

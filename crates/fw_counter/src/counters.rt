@@ -145,11 +145,13 @@ impl<D: JournalDevice> Counters<D> {
         }
     }
 
-    /// The device. Every power cut leaves records that reserve just what is reserved here.
+    /// The device. Every power cut leaves records that reserve just what is reserved here; or that at least, where a commit has failed.
     pub fn device(&self) -> &D
         ensures value { result.now ≡ device_of self.now }
         ensures each_cut { Holds D.JournalDevice self.now → (left : List ℕ) → D.may_leave (device_of self.now) left
             → Reserves left (counter_of self.now).reserved }
+        ensures leaves { IsKept D.JournalDevice self.now → (left : List ℕ) → D.may_leave (device_of self.now) left
+            → HasReserved left (counter_of self.now).reserved }
     {
         self.journal.device()
     }
