@@ -1,13 +1,13 @@
 -- What a power cut leaves of counters, in calls and after them.
-use Rattle.std.proofs.Common.{◌≡◌, ◌⊎◌, inl, inr, ⊎_elim, ℕ, ◌+◌, ◌<◌, ◌≤◌, ◌^◌, List, [], ◌∷◌, ◌++◌, length, IsTrue, refl, sym, ◌∙◌, ap, subst, arith}
+use Rattle.std.proofs.Common.{◌≡◌, ◌⊎◌, inl, inr, ⊎_elim, ℕ, ◌<◌, ◌≤◌, ◌^◌, List, [], ◌∷◌, ◌++◌, length, IsTrue, sym, ◌∙◌, ap, subst, arith}
 use Rattle.std.specs.Int.{w32, to_be_bytes}
-use Rattle.fw_journal.specs.Book.{Stands, book_bytes}
+use Rattle.fw_journal.specs.Book.{Stands}
 use Rattle.fw_journal.specs.Device.{LeavesOnly}
 use Rattle.fw_journal.specs.Journal as journal
 use Rattle.fw_journal.specs.declared.device.JournalDevice
 use Rattle.fw_journal.specs.declared.journal.Journal.{Journal}
 use Rattle.fw_counter.specs.Reserved.{reserved_by, Reserves, HasReserved}
-use Rattle.fw_counter.specs.Counters.{device_of, is_broken, Holds, HasFailed, IsKept}
+use Rattle.fw_counter.specs.Counters.{device_of, is_broken, Holds, IsKept}
 use Rattle.fw_counter.specs.declared.counters.Counters.{Counters}
 use Rattle.fw_counter.proofs.Records.{fit_push, reserved_more}
 

@@ -6,7 +6,7 @@ use Rattle.fw_journal.specs.Laws.{OneReading, BadIsNone}
 use Rattle.fw_journal.specs.Book.{Stands, IsBadBook}
 use Rattle.fw_journal.specs.declared.error.JournalError.{JournalError}
 use Rattle.fw_journal.specs.declared.error.JournalError.TheVariants as journal
-use Rattle.fw_counter.specs.Reserved.{AreReservations, reserved_by, Reserves, HasReserved, HasNoCounter}
+use Rattle.fw_counter.specs.Reserved.{AreReservations, reserved_by, HasReserved, HasNoCounter}
 use Rattle.fw_counter.specs.Moves.{Counter, range, limit, reserved_after}
 use Rattle.fw_counter.specs.Laws.{OneBound}
 use Rattle.fw_counter.specs.Refusals.{counter_error}

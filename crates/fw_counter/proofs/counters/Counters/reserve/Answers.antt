@@ -1,9 +1,9 @@
-use Rattle.std.proofs.Common.{◌≡◌, ◌⊎◌, inl, inr, ⊎_elim, ℕ, ◌<◌, ◌≤◌, ◌^◌, List, [], IsTrue, Ok, IsErrOf, sym, ◌∙◌, subst, arith}
+use Rattle.std.proofs.Common.{◌≡◌, ◌⊎◌, inl, inr, ⊎_elim, ℕ, ◌<◌, ◌≤◌, ◌^◌, [], IsTrue, sym, ◌∙◌, subst, arith}
 use Rattle.fw_journal.specs.Device.{LeavesOnly}
 use Rattle.fw_journal.specs.declared.journal.Journal.{Journal}
 use Rattle.fw_counter.specs.Moves.{reserved_after}
 use Rattle.fw_counter.specs.Reserved.{Reserves}
-use Rattle.fw_counter.specs.Counters.{counter_of, device_of, is_broken, Holds, IsKept}
+use Rattle.fw_counter.specs.Counters.{counter_of, device_of, is_broken, IsKept}
 use Rattle.fw_counter.proofs.Keeps.{commit_moments, commit_holds, commit_fails, commit_leaves}
 use Rattle.fw_counter.proofs.Records.{ok_err, used_after}
 use Rattle.fw_counter.proofs.counters.Counters.reserve.Goals as goal
