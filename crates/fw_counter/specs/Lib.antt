@@ -1,0 +1,6 @@
+-- Public vocabulary: the words of public clauses, for callers and readers.
+pub mod Reserved
+pub mod Moves
+pub mod Counters
+pub mod Refusals
+pub mod Laws

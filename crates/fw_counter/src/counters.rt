@@ -1,0 +1,260 @@
+//! The counters of a sealer, over a journal of what is reserved of them.
+
+ghost use Rattle.std.specs.Prelude.{
+  ◌≡◌,
+  ◌≢◌,
+  ◌≤◌,
+  ◌<◌,
+  ◌↔◌,
+  ◌⊎◌,
+  ◌+◌,
+  [],
+  ◌∷◌,
+  ℕ,
+  List,
+  IfOk,
+  IfErr,
+  OnOk,
+  OnErr,
+  IsOk,
+  IsErrOf,
+  IsTrue,
+};
+ghost use Rattle.fw_journal.specs.Book.{Drops, Stands};
+ghost use Rattle.fw_journal.specs.Device.{LeavesOnly, Keeps};
+ghost use Rattle.fw_journal.specs.Keeping.{KeepsFirst};
+ghost use Rattle.fw_journal.specs.Refusals.{IsMakingRefusal};
+ghost use Rattle.fw_counter.specs.Moves.{Counter, Goes, MovesLead, uses, reserves, killed, limit, reserved_after, taken};
+ghost use Rattle.fw_counter.specs.Reserved.{HasNoCounter, HasReserved, Reserves};
+ghost use Rattle.fw_counter.specs.Refusals.{IsOpeningRefusal, IsTakingRefusal};
+
+use crate::error::CounterError;
+use crate::reading::bound_of;
+use fw_journal::{Journal, JournalDevice, JournalError, Keeper};
+use std::alloc::Global;
+
+/// How many counters are reserved at a time.
+const RANGE: u32 = 65_536;
+
+/// The invocation counters that one sealer uses under a key (IEC 62056-5-3): each APDU is sealed with the next one, and none is used twice.
+/// Each record of the journal is a number of four bytes, high byte first, and reserves all counters below it. A counter is given only once
+/// it is reserved, and what is reserved counts as used where the journal is opened. So a kill or a power cut wastes a range at most, and
+/// repeats nothing. There are 4,294,967,295 counters, so at most 65,536 ranges, and their records have 2.7 MB.
+pub struct Counters<D: JournalDevice> {
+    journal: Journal<D>,
+    /// The counter that is given next.
+    next: u32,
+    /// All below it are reserved on the device.
+    reserved: u32,
+}
+
+// Written out: where counters are let go, that is one call, and none of their parts is looked into.
+impl<D: JournalDevice + Drop> Drop for Counters<D> {
+    fn drop(self) {
+        let Counters {
+            journal: _,
+            next: _,
+            reserved: _,
+        } = self;
+    }
+}
+
+impl<D: JournalDevice> Counters<D> {
+    ghost use Rattle.fw_counter.specs.Counters.{counter_of, device_of, is_broken, IsFull, IsKept, Holds};
+
+    /// Makes counters of which none is used or reserved, on a device without bytes, and syncs it. A power cut in the call leaves any bytes,
+    /// so that a file is made beside, and renamed then.
+    ///
+    /// # Errors
+    ///
+    /// `NotEmpty` where there are bytes, which are left as they are and reported before memory is taken; else `BookFault` and
+    /// `OutOfMemory`. The device is returned.
+    pub fn create(alloc: Global, device: D) -> Result<Self, (JournalError, D)>
+        ensures made { IsTrue (D.honest device) → IfOk result (λ counters. Holds D.JournalDevice counters) }
+        ensures counter { IfOk result (λ counters. counter_of counters ≡ record { next = 0; reserved = 0 }) }
+        ensures empty { IsTrue (D.honest device) → OnOk result (D.contents device ≡ []) }
+        ensures not_empty { IsTrue (D.honest device) → IfErr result (λ e. e.0 ≡ JournalError.NotEmpty
+            → (D.contents device ≢ []) × (D.contents e.1 ≡ D.contents device)) }
+        ensures memory { IsTrue (D.honest device) → IfErr result (λ e. e.0 ≡ JournalError.OutOfMemory → D.contents device ≡ []) }
+        ensures never { IsTrue (D.sound device) → IfErr result (λ e. e.0 ≢ JournalError.BookFault) }
+        ensures refusals { IfErr result (λ e. IsMakingRefusal e.0) }
+        ensures kept { IfOk result (λ counters. Keeps D.honest D.sound device (device_of counters)) }
+    {
+        match Journal::create(alloc, device) {
+            Ok(journal) => Ok(Counters {
+                journal,
+                next: 0,
+                reserved: 0,
+            }),
+            Err(refused) => Err(refused),
+        }
+    }
+
+    /// Opens the counters that a power cut, or a process that was killed, may have left. All that are reserved count as used. The device is
+    /// synced first. What is cut off it and reads as records, the keeper has first.
+    ///
+    /// # Errors
+    ///
+    /// `NoCounter` where the bytes are no journal's, or where a record isn't a number of four bytes. Else `CounterFault` and `OutOfMemory`,
+    /// of the device or of the keeper, which may come in place of it. The device is returned.
+    pub fn open<K: Keeper>(
+        alloc: Global,
+        device: D,
+        keeper: &mut K,
+    ) -> Result<Self, (CounterError, D)>
+        ensures opened { IsTrue (D.honest device) → IfOk result (λ counters. Holds D.JournalDevice counters) }
+        ensures reserved { IsTrue (D.honest device)
+            → IfOk result (λ counters. Reserves (D.contents device) (counter_of counters).reserved) }
+        ensures next { IfOk result (λ counters. (counter_of counters).next ≡ (counter_of counters).reserved) }
+
+        // What is opened goes on with the counter of those whose kill or whose cut left the bytes.
+        ensures goes { IsTrue (D.honest device) → (used : List ℕ) (before : Counter) → HasReserved (D.contents device) before.reserved
+            → IfOk result (λ counters. Goes used before (killed (counter_of counters).reserved) used (counter_of counters)) }
+        ensures none { IsTrue (D.honest device) → IfErr result (λ e. e.0 ≡ CounterError.NoCounter → HasNoCounter (D.contents device)) }
+
+        // A cut at any moment of the call leaves what one before it might have left, or a journal of the same records.
+        ensures any_moment { IsTrue (D.honest device) → IfOk result (λ counters. LeavesOnly D.moment D.left_since device (device_of counters)
+            (λ left. D.may_leave device left ⊎ ((records : List (List ℕ)) → Stands (D.contents device) records → Stands left records))) }
+        ensures any_moment_err { IsTrue (D.honest device) → IfErr result (λ e. LeavesOnly D.moment D.left_since device e.1
+            (λ left. D.may_leave device left ⊎ ((records : List (List ℕ)) → Stands (D.contents device) records → Stands left records))) }
+
+        // What reads as records is cut off only once the keeper holds it.
+        ensures dropped { IsTrue (D.honest device) → (rest : List ℕ) (count : ℕ) → Drops (D.contents device) rest count → 1 ≤ count
+            → OnOk result (K.holds keeper.new rest) }
+        ensures kept_first { IsTrue (D.honest device)
+            → IfOk result (λ counters. KeepsFirst D.JournalDevice K.Keeper device (device_of counters) keeper.old keeper.new) }
+        ensures kept_first_err { IsTrue (D.honest device)
+            → IfErr result (λ e. KeepsFirst D.JournalDevice K.Keeper device e.1 keeper.old keeper.new) }
+        ensures never { IsTrue (D.honest device) → IsTrue (D.sound device) → IsTrue (K.sound keeper.old)
+            → IfErr result (λ e. e.0 ≢ CounterError.CounterFault) }
+        ensures refusals { IfErr result (λ e. IsOpeningRefusal e.0) }
+        ensures kept { IfOk result (λ counters. Keeps D.honest D.sound device (device_of counters)) }
+    {
+        fw_journal::laws::one_reading();
+        fw_journal::laws::bad_is_none();
+        match Journal::open(alloc, device, keeper) {
+            Ok((journal, records)) => match bound_of(&records) {
+                Some(reserved) => Ok(Counters {
+                    journal,
+                    next: reserved,
+                    reserved,
+                }),
+                None => Err((CounterError::NoCounter, journal.into_device())),
+            },
+            Err((refusal, device)) => Err((CounterError::from(refusal), device)),
+        }
+    }
+
+    /// The device. Every power cut leaves records that reserve just what is reserved here; or that at least, where a commit has failed.
+    pub fn device(&self) -> &D
+        ensures value { result.now ≡ device_of self.now }
+        ensures each_cut { Holds D.JournalDevice self.now → (left : List ℕ) → D.may_leave (device_of self.now) left
+            → Reserves left (counter_of self.now).reserved }
+        ensures leaves { IsKept D.JournalDevice self.now → (left : List ℕ) → D.may_leave (device_of self.now) left
+            → HasReserved left (counter_of self.now).reserved }
+    {
+        self.journal.device()
+    }
+
+    /// The device.
+    pub fn into_device(self) -> D
+        ensures { result ≡ device_of self }
+    {
+        let Counters {
+            journal,
+            next: _,
+            reserved: _,
+        } = self;
+        journal.into_device()
+    }
+
+    /// The next counter, which is used by that: it isn't given again, whatever becomes of the caller. Where all reserved ones are used, a
+    /// range more is reserved and synced first. From `Ok` on every power cut leaves records that reserve it.
+    ///
+    /// # Errors
+    ///
+    /// `CounterSpent` where all are used. Else, where a range has to be reserved, `CounterFault`, where the device fails, where it failed in
+    /// an earlier call, or where the journal has 2^60 bytes or more; or `OutOfMemory`. The counter is as before then. No more are reserved
+    /// from a `CounterFault` on that the device gave.
+    pub fn take(&mut self, alloc: Global) -> Result<u32, CounterError>
+        ensures given { IfOk result (λ number. number ≡ (counter_of self.old).next) }
+        ensures after { OnOk result (counter_of self.new ≡ taken (counter_of self.old)) }
+        ensures same { OnErr result (counter_of self.new ≡ counter_of self.old) }
+
+        // It is a reservation, which may be of none, and then a use.
+        ensures goes { (used : List ℕ) → IfOk result (λ number. MovesLead used (counter_of self.old)
+            (reserves (reserved_after (counter_of self.old)) ∷ uses ∷ []) (number ∷ used) (counter_of self.new)) }
+
+        // From `Ok` on every power cut leaves records that reserve more than this number.
+        ensures each_cut { IsKept D.JournalDevice self.old
+            → IfOk result (λ number. (left : List ℕ) → D.may_leave (device_of self.new) left → HasReserved left (number + 1)) }
+
+        // A cut at any moment of the call leaves records that reserve what was reserved before, or a range more; and after whatever calls,
+        // what was reserved before at least.
+        ensures any_moment { Holds D.JournalDevice self.old → LeavesOnly D.moment D.left_since (device_of self.old) (device_of self.new)
+            (λ left. Reserves left (counter_of self.old).reserved ⊎ Reserves left (reserved_after (counter_of self.old))) }
+        ensures leaves { IsKept D.JournalDevice self.old → LeavesOnly D.moment D.left_since (device_of self.old) (device_of self.new)
+            (λ left. HasReserved left (counter_of self.old).reserved) }
+        ensures acknowledged { Holds D.JournalDevice self.old → OnOk result (Holds D.JournalDevice self.new) }
+        ensures stays { IsKept D.JournalDevice self.old → IsKept D.JournalDevice self.new }
+
+        // Nothing is asked of the device while reserved ones are left.
+        ensures idle { (counter_of self.old).next < (counter_of self.old).reserved
+            → IsOk result × (device_of self.new ≡ device_of self.old) }
+        ensures spent { IsErrOf result CounterError.CounterSpent ↔ ((counter_of self.old).next ≡ limit) }
+
+        // What failed once stays failed.
+        ensures breaks { IsErrOf result CounterError.CounterFault → IsTrue (is_broken self.new) ⊎ IsFull self.old }
+        ensures broken { IsTrue (is_broken self.old) → OnErr result (self.new ≡ self.old) × IsTrue (is_broken self.new)
+            × ¬ IsErrOf result CounterError.OutOfMemory }
+
+        // A sound device gives no `CounterFault`, unless it was so before.
+        ensures never { IsTrue (D.sound (device_of self.old)) → IsErrOf result CounterError.CounterFault
+            → IsTrue (is_broken self.old) ⊎ IsFull self.old }
+        ensures memory { IsErrOf result CounterError.OutOfMemory
+            → ((counter_of self.old).reserved ≤ (counter_of self.old).next) × ((counter_of self.old).next < limit) }
+        ensures refusals { IfErr result IsTakingRefusal }
+        ensures kept { Keeps D.honest D.sound (device_of self.old) (device_of self.new) }
+    {
+        self.reserve(alloc)?;
+        let number = self.next;
+        self.next = number + 1;
+        Ok(number)
+    }
+
+    /// Reserves a range more, where all reserved counters are used.
+    fn reserve(&mut self, alloc: Global) -> Result<(), CounterError>
+        ensures after { OnOk result (counter_of self.new
+            ≡ record { next = (counter_of self.old).next; reserved = reserved_after (counter_of self.old) }) }
+        ensures some { OnOk result ((counter_of self.new).next < (counter_of self.new).reserved) }
+        ensures more { (counter_of self.old).reserved ≤ reserved_after (counter_of self.old) }
+        ensures same { OnErr result (counter_of self.new ≡ counter_of self.old) }
+        ensures any_moment { Holds D.JournalDevice self.old → LeavesOnly D.moment D.left_since (device_of self.old) (device_of self.new)
+            (λ left. Reserves left (counter_of self.old).reserved ⊎ Reserves left (reserved_after (counter_of self.old))) }
+        ensures leaves { IsKept D.JournalDevice self.old → LeavesOnly D.moment D.left_since (device_of self.old) (device_of self.new)
+            (λ left. HasReserved left (counter_of self.old).reserved) }
+        ensures acknowledged { Holds D.JournalDevice self.old → OnOk result (Holds D.JournalDevice self.new) }
+        ensures stays { IsKept D.JournalDevice self.old → IsKept D.JournalDevice self.new }
+        ensures idle { (counter_of self.old).next < (counter_of self.old).reserved → IsOk result × (self.new ≡ self.old) }
+        ensures spent { IsErrOf result CounterError.CounterSpent ↔ ((counter_of self.old).next ≡ limit) }
+        ensures breaks { IsErrOf result CounterError.CounterFault → IsTrue (is_broken self.new) ⊎ IsFull self.old }
+        ensures broken { IsTrue (is_broken self.old) → (self.new ≡ self.old) × ¬ IsErrOf result CounterError.OutOfMemory }
+        ensures never { IsTrue (D.sound (device_of self.old)) → IsErrOf result CounterError.CounterFault
+            → IsTrue (is_broken self.old) ⊎ IsFull self.old }
+        ensures memory { IsErrOf result CounterError.OutOfMemory
+            → ((counter_of self.old).reserved ≤ (counter_of self.old).next) × ((counter_of self.old).next < limit) }
+        ensures refusals { IfErr result IsTakingRefusal }
+        ensures kept { Keeps D.honest D.sound (device_of self.old) (device_of self.new) }
+    {
+        if self.next < self.reserved {
+            return Ok(());
+        }
+        let bound = self.next.saturating_add(RANGE);
+        if bound == self.next {
+            return Err(CounterError::CounterSpent);
+        }
+        self.journal.commit_with(alloc, &bound.to_be_bytes())?;
+        self.reserved = bound;
+        Ok(())
+    }
+}

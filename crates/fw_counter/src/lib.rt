@@ -1,0 +1,11 @@
+//! The invocation counters of a sealer, of which none is used twice under a key, over kills and power cuts: they are reserved in a journal
+//! before they are used.
+#![tactic(auto)]
+
+mod counters;
+mod error;
+pub mod laws;
+mod reading;
+
+pub use counters::Counters;
+pub use error::CounterError;
