@@ -1,5 +1,5 @@
 -- A content, taken apart and put together.
-use Rattle.std.proofs.Common.{◌≡◌, ℕ, zero, suc, ◌+◌, ◌-◌, ◌^◌, ◌<◌, ◌≤◌, List, [], ◌∷◌, ◌++◌, length, take, drop, refl, sym, ap, ◌∙◌, arith, get_or, append_assoc, length-append}
+use Rattle.std.proofs.Common.{◌≡◌, ℕ, zero, suc, ◌+◌, ◌-◌, ◌^◌, ◌<◌, ◌≤◌, List, [], ◌∷◌, ◌++◌, length, take, drop, refl, sym, ap, ◌∙◌, arith, get_or, length-append, length-drop}
 use Rattle.std.proofs.lemmas.List.{drop_at, take_at, take-append-drop}
 use Rattle.std.proofs.lemmas.Nat.{be_bytes_4, from_be_bytes-to_be_bytes_4}
 use Rattle.std.specs.Int.{w32, to_be_bytes, from_be_bytes}
@@ -47,25 +47,24 @@ parts_found bytes rest text mac counter n er len small control fits ec et em lm 
 pub record Apart (bytes text mac : List ℕ) (counter : ℕ) : Type 0 where
   pub control : get_or bytes 0 0 ≡ 0x30
   pub counted : from_be_bytes w32 (counter_bytes bytes) ≡ counter
-  pub front : 5 ≤ length bytes
-  pub back : 12 ≤ length (drop 5 bytes)
-  pub text : take (length (drop 5 bytes) - 12) (drop 5 bytes) ≡ text
-  pub mac : drop (length (drop 5 bytes) - 12) (drop 5 bytes) ≡ mac
+  pub some : 5 ≤ length bytes
+  pub more : 12 ≤ length (drop 5 bytes)
+  pub front : take (length (drop 5 bytes) - 12) (drop 5 bytes) ≡ text
+  pub back : drop (length (drop 5 bytes) - 12) (drop 5 bytes) ≡ mac
 
 pub apart : (bytes text mac : List ℕ) (counter : ℕ) → IsContent counter text mac bytes → Apart bytes text mac counter
 apart bytes text mac counter is =
     let twelve : length mac ≡ 12 = is.mac_size in
     let rest : drop 5 bytes ≡ text ++ mac = ap (drop 5) is.parts in
     let len : length (drop 5 bytes) ≡ length text + 12 = ap length rest ∙ length-append text mac ∙ ap (λ (n : ℕ). length text + n) twelve in
-    let whole : length bytes ≡ 5 + length (text ++ mac) = ap length is.parts in
     let n : length (drop 5 bytes) - 12 ≡ length text = omega arith in
     record {
       control = ap (λ (xs : List ℕ). get_or xs 0 0) is.parts;
       counted = ap (λ (xs : List ℕ). from_be_bytes w32 (counter_bytes xs)) is.parts ∙ from_be_bytes-to_be_bytes_4 counter is.counter_fits;
-      front = omega arith;
-      back = omega arith;
-      text = rw (n, rest) (take_at text mac (length text) refl);
-      mac = rw (n, rest) (drop_at text mac (length text) refl);
+      some = omega (arith, length-drop 5 bytes);
+      more = omega arith;
+      front = rw (n, rest) (take_at text mac (length text) refl);
+      back = rw (n, rest) (drop_at text mac (length text) refl);
     }
 
 -- bytes are a content in one way
@@ -74,7 +73,7 @@ pub one_content : (bytes text mac text' mac' : List ℕ) (counter counter' : ℕ
 one_content bytes text mac text' mac' counter counter' is other =
     let a = apart bytes text mac counter is in
     let b = apart bytes text' mac' counter' other in
-    (sym a.counted ∙ b.counted, sym a.text ∙ b.text, sym a.mac ∙ b.mac)
+    (sym a.counted ∙ b.counted, sym a.front ∙ b.front, sym a.back ∙ b.back)
 
 -- ---- the content of the sealings of an APDU
 
@@ -106,22 +105,36 @@ content_parts keys title counter apdu fits = record {
   parts = refl;
 }
 
-pub length-content_of : (keys : Keys) (title : List ℕ) (counter : ℕ) (apdu : List ℕ) → length (content_of keys title counter apdu) ≡ 17 + length apdu
+content_is : (keys : Keys) (title : List ℕ) (counter : ℕ) (apdu : List ℕ)
+    → content_of keys title counter apdu ≡ ((0x30 ∷ to_be_bytes w32 counter) ++ text_in keys title counter apdu) ++ mac_in keys title counter apdu
 unfolding content_of
+content_is keys title counter apdu = refl
+
+five_more : (counter : ℕ) (text mac : List ℕ) → length (((0x30 ∷ to_be_bytes w32 counter) ++ text) ++ mac) ≡ 5 + length (text ++ mac)
+five_more counter text mac = omega arith
+
+pub length-content_of : (keys : Keys) (title : List ℕ) (counter : ℕ) (apdu : List ℕ) → length (content_of keys title counter apdu) ≡ 17 + length apdu
 length-content_of keys title counter apdu =
     let text : List ℕ = text_in keys title counter apdu in
     let mac : List ℕ = mac_in keys title counter apdu in
     let twelve : length mac ≡ 12 = length-tag_of keys.encryption (iv_of title counter) (aad_of keys.authentication) text in
     let same : length text ≡ length apdu = length-ciphertext_of keys.encryption (iv_of title counter) apdu in
-    omega (arith, length-append text mac, twelve, same)
+    ap length (content_is keys title counter apdu) ∙ five_more counter text mac ∙ omega (arith, length-append text mac, twelve, same)
 
 -- a content is put together, a part after another
-pieces : (y : ℕ) (bytes text mac : List ℕ) → (((y ∷ []) ++ bytes) ++ text) ++ mac ≡ ((y ∷ bytes) ++ text) ++ mac
-pieces y bytes text mac = refl
-
 pub content_put : (keys : Keys) (title apdu plain text shown mac iv aad v1 v2 v3 v4 : List ℕ) (counter : ℕ) → plain ≡ apdu → iv ≡ iv_of title counter
     → aad ≡ aad_of keys.authentication → text ≡ ciphertext_of keys.encryption iv plain → mac ≡ tag_of keys.encryption iv aad text → shown ≡ text
     → v1 ≡ 0x30 ∷ [] → v2 ≡ v1 ++ to_be_bytes w32 counter → v3 ≡ v2 ++ shown → v4 ≡ v3 ++ mac → v4 ≡ content_of keys title counter apdu
-unfolding content_of
 content_put keys title apdu plain text shown mac iv aad v1 v2 v3 v4 counter ep ei ea et em es e1 e2 e3 e4 =
-    rw (e4, e3, e2, e1, es, em, et, ep, ei, ea) refl
+    let ciphered : text ≡ text_in keys title counter apdu =
+    et ∙ ap (λ (v : List ℕ). ciphertext_of keys.encryption v plain) ei ∙ ap (ciphertext_of keys.encryption (iv_of title counter)) ep in
+    let tagged : mac ≡ mac_in keys title counter apdu =
+    em ∙ ap (λ (v : List ℕ). tag_of keys.encryption v aad text) ei ∙ ap (λ (a : List ℕ). tag_of keys.encryption (iv_of title counter) a text) ea
+    ∙ ap (tag_of keys.encryption (iv_of title counter) (aad_of keys.authentication)) ciphered in
+    let front : v2 ≡ 0x30 ∷ to_be_bytes w32 counter = e2 ∙ ap (λ (v : List ℕ). v ++ to_be_bytes w32 counter) e1 in
+    e4 ∙ ap (λ (v : List ℕ). v ++ mac) (e3 ∙ ap (λ (v : List ℕ). v ++ shown) front ∙ ap (λ (v : List ℕ). (0x30 ∷ to_be_bytes w32 counter) ++ v) (es ∙ ciphered))
+    ∙ ap (λ (v : List ℕ). ((0x30 ∷ to_be_bytes w32 counter) ++ text_in keys title counter apdu) ++ v) tagged ∙ sym (content_is keys title counter apdu)
+
+-- what a vector shows of a text that was put over another one
+pub shown_whole : (text old : List ℕ) (n : ℕ) → length text ≡ n → take n (text ++ drop (length text) old) ≡ text
+shown_whole text old n e = take_at text (drop (length text) old) n e

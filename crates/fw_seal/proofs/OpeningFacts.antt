@@ -48,7 +48,8 @@ pub sealing_mac : (keys : Keys) (title apdu bytes content text mac : List ℕ) (
     → IsFrame tag content bytes → IsContent counter text mac content → mac ≡ tag_of keys.encryption (iv_of title counter) (aad_of keys.authentication) text
 sealing_mac keys title apdu bytes content text mac tag counter number is framed filled =
     let parts = sealing_parts keys title apdu bytes content text mac tag counter number is framed filled in
-    rw (parts.0, parts.1) parts.2
+    parts.2 ∙ sym (ap (λ (n : ℕ). tag_of keys.encryption (iv_of title n) (aad_of keys.authentication) text) parts.0
+    ∙ ap (tag_of keys.encryption (iv_of title number) (aad_of keys.authentication)) parts.1)
 
 -- what is deciphered is the APDU
 pub sealing_apdu : OpensWhatWasSealed → (keys : Keys) (title apdu bytes content text mac items : List ℕ) (tag counter number : ℕ) → IsSealing keys title number apdu bytes

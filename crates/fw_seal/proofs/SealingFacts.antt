@@ -25,5 +25,7 @@ sealing_put keys title apdu content v1 v2 v3 counter tag n fits named ec en smal
       size = omega (arith, same);
       tag = tag;
       named = named;
-      parts = rw (e3, e2, e1, ec, same) refl;
+      parts =
+          e3 ∙ ap (λ (v : List ℕ). v ++ content) (e2 ∙ ap (λ (v : List ℕ). v ++ tag ∷ short_length n) e1) ∙ ap (λ (v : List ℕ). (tag ∷ short_length n) ++ v) ec
+          ∙ ap (λ (k : ℕ). (tag ∷ short_length k) ++ content_of keys title counter apdu) same;
     }

@@ -25,7 +25,7 @@ pub record CounterRange : Type 0 where
 -- one is taken, the lowest
 pub record IsTaken (before after : CounterRange) : Type 0 where
   pub left : before.next < before.end
-  pub after : after ≡ record before { next = before.next + 1 }
+  pub goes_on : after ≡ record before { next = before.next + 1 }
 
 -- the tag of the sealings of APDUs with this tag, where there are such: of GET-request, SET-request, ACTION-request, GET-response,
 -- SET-response and ACTION-response it is that of glo-get-request, and so on

@@ -35,11 +35,15 @@ pub(crate) fn frame(bytes: &[u8]) -> Option<(u8, &[u8])>
         return None;
     };
     let mut reader = Reader::new(rest);
-    let len = reader.length().ok()?;
+    let Ok(len) = reader.length() else {
+        return None;
+    };
     if len > MAX_CONTENT || reader.len() != len {
         return None;
     }
-    let content = reader.bytes(len).ok()?;
+    let Ok(content) = reader.bytes(len) else {
+        return None;
+    };
     Some((*tag, content))
 }
 
@@ -56,7 +60,9 @@ pub(crate) fn parts_of(bytes: &[u8]) -> Option<Parts<'_>>
     if *control != SECURITY_CONTROL {
         return None;
     }
-    let (text, mac) = rest.split_last_chunk::<TAG_SIZE>()?;
+    let Some((text, mac)) = rest.split_last_chunk::<TAG_SIZE>() else {
+        return None;
+    };
     let counter = u32::from_be_bytes([*c3, *c2, *c1, *c0]);
     Some(Parts { counter, text, mac })
 }

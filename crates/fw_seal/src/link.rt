@@ -62,9 +62,10 @@ pub struct Opened {
 fn iv(title: &[u8; TITLE_SIZE], counter: u32) -> [u8; 12]
     ensures { result ≡ iv_of title.now counter }
 {
-    let [a, b, c, d, e, f, g, h] = *title;
-    let [c3, c2, c1, c0] = counter.to_be_bytes();
-    [a, b, c, d, e, f, g, h, c3, c2, c1, c0]
+    let mut iv = [0u8; 12];
+    iv[..TITLE_SIZE].copy_from_slice(title);
+    iv[TITLE_SIZE..].copy_from_slice(&counter.to_be_bytes());
+    iv
 }
 
 /// The additional data under an authentication key.
