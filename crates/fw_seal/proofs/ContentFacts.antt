@@ -1,10 +1,10 @@
 -- A content, taken apart and put together.
-use Rattle.std.proofs.Common.{◌≡◌, ℕ, zero, suc, ◌+◌, ◌-◌, ◌^◌, ◌<◌, ◌≤◌, List, [], ◌∷◌, ◌++◌, length, take, drop, refl, sym, ap, ◌∙◌, arith, get_or, length-append, length-drop}
-use Rattle.std.proofs.lemmas.List.{drop_at, take_at, take-append-drop}
+use Rattle.std.proofs.Common.{◌≡◌, ◌≢◌, ℕ, zero, suc, ◌+◌, ◌-◌, ◌^◌, ◌<◌, ◌≤◌, List, [], ◌∷◌, ◌++◌, length, take, drop, refl, sym, ap, ◌∙◌, arith, get_or, length-append, length-drop}
+use Rattle.std.proofs.lemmas.List.{drop_at, take_all, take_at, take-append-drop}
 use Rattle.std.proofs.lemmas.Nat.{be_bytes_4, from_be_bytes-to_be_bytes_4}
 use Rattle.std.specs.Int.{w32, to_be_bytes, from_be_bytes}
 use Rattle.fw_aes.specs.Gcm.{ciphertext_of, stream_byte, sum_from, tag_of}
-use Rattle.fw_seal.specs.Sealing.{IsContent, Keys, aad_of, content_of, iv_of}
+use Rattle.fw_seal.specs.Sealing.{IsContent, Keys, NoContent, aad_of, content_of, iv_of}
 
 -- the four bytes of a counter, which begin at the second byte
 abbrev pub counter_bytes : List ℕ → List ℕ
@@ -66,6 +66,25 @@ apart bytes text mac counter is =
       front = rw (n, rest) (take_at text mac (length text) refl);
       back = rw (n, rest) (drop_at text mac (length text) refl);
     }
+
+-- ---- why bytes are no content
+
+-- they lack a byte before the ciphertext
+pub no_header : (bytes : List ℕ) → length bytes < 5 → NoContent bytes
+no_header bytes none counter text mac is =
+    let some : 5 ≤ length bytes = (apart bytes text mac counter is).some in
+    absurd (omega arith)
+
+-- they have another security control
+pub other_control : (bytes : List ℕ) → get_or bytes 0 0 ≢ 0x30 → NoContent bytes
+other_control bytes ne counter text mac is = ne (apart bytes text mac counter is).control
+
+-- they lack a byte of the authentication tag
+pub no_mac : (bytes rest : List ℕ) → rest ≡ drop 5 bytes → length rest < 12 → NoContent bytes
+no_mac bytes rest er none counter text mac is =
+    let more : 12 ≤ length (drop 5 bytes) = (apart bytes text mac counter is).more in
+    let same : length rest ≡ length (drop 5 bytes) = ap length er in
+    absurd (omega arith)
 
 -- bytes are a content in one way
 pub one_content : (bytes text mac text' mac' : List ℕ) (counter counter' : ℕ) → IsContent counter text mac bytes → IsContent counter' text' mac' bytes
@@ -138,3 +157,7 @@ content_put keys title apdu plain text shown mac iv aad v1 v2 v3 v4 counter ep e
 -- what a vector shows of a text that was put over another one
 pub shown_whole : (text old : List ℕ) (n : ℕ) → length text ≡ n → take n (text ++ drop (length text) old) ≡ text
 shown_whole text old n e = take_at text (drop (length text) old) n e
+
+-- what a pattern leaves behind its first elements
+pub rest_is : (n : ℕ) (xs : List ℕ) → take (length xs - n) (drop n xs) ≡ drop n xs
+rest_is n xs = take_all (length xs - n) (drop n xs) (omega (arith, length-drop n xs))

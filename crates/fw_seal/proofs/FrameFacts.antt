@@ -1,5 +1,5 @@
 -- A frame, and how it is read.
-use Rattle.std.proofs.Common.{◌≡◌, ℕ, ◌+◌, ◌^◌, ◌<◌, ◌≤◌, false, ltb, List, [], ◌∷◌, ◌++◌, length, take, drop, Result, Ok, Err, refl, sym, ap, subst, ◌∙◌, arith, get_or}
+use Rattle.std.proofs.Common.{◌≡◌, ◌≢◌, ℕ, ◌+◌, ◌^◌, ◌<◌, ◌≤◌, false, ltb, List, [], ◌∷◌, ◌++◌, length, take, drop, Result, Ok, Err, refl, sym, ap, subst, ◌∙◌, arith, get_or}
 use Rattle.std.specs.Result.{MatchResult}
 use Rattle.std.proofs.lemmas.Bool.{le-ltb}
 use Rattle.std.proofs.lemmas.List.{take_all}
@@ -10,7 +10,7 @@ use Rattle.fw_axdr.specs.Fault.{LengthFails}
 use Rattle.fw_axdr.specs.Private.{seen, length_at}
 use Rattle.fw_axdr.specs.Spelling.{IsLength}
 use Rattle.fw_axdr.proofs.Lengths.{LengthTaken, length_again, length_sound}
-use Rattle.fw_seal.specs.Sealing.{IsFrame}
+use Rattle.fw_seal.specs.Sealing.{IsFrame, NoFrame}
 
 -- what is in an `Ok`
 abbrev ok_value : {A E : Type 0} → Result A E → A → A
@@ -79,18 +79,39 @@ all_refused bytes n f e read =
     let both = sym (all_bytes bytes n e) ∙ read in
     cc
 
--- where no length is read there is no frame
-pub refused_front : (bytes : List ℕ) (tag : ℕ) (content : List ℕ) (f : ReadError) → reader.length_at (drop 1 bytes) ≡ Err f → IsFrame tag content bytes → ⊥
-refused_front bytes tag content f read is =
-    let both = sym (front bytes tag content is).read ∙ read in
-    cc
-
 -- the length of a frame, and what follows it, are those that are read
 pub front_both : (bytes behind : List ℕ) (tag n : ℕ) (content : List ℕ) → reader.length_at (drop 1 bytes) ≡ Ok (n, behind) → IsFrame tag content bytes
     → (length content ≡ n) × (content ≡ behind)
 front_both bytes behind tag n content read is =
     let both = sym (front bytes tag content is).read ∙ read in
     (ap (λ (r : Result (ℕ × List ℕ) ReadError). (ok_value r (n, behind)).0) both, ap (λ (r : Result (ℕ × List ℕ) ReadError). (ok_value r (n, behind)).1) both)
+
+-- ---- why bytes are no frame
+
+-- there are none
+pub no_byte : (bytes : List ℕ) → length bytes < 1 → NoFrame bytes
+no_byte bytes none tag content is =
+    let some : 1 ≤ length bytes = (front bytes tag content is).some in
+    absurd (omega arith)
+
+-- no length is read
+pub no_length : (bytes : List ℕ) (f : ReadError) → reader.length_at (drop 1 bytes) ≡ Err f → NoFrame bytes
+no_length bytes f read tag content is =
+    let both = sym (front bytes tag content is).read ∙ read in
+    cc
+
+-- it is longer than a content is
+pub long_length : (bytes behind : List ℕ) (n : ℕ) → reader.length_at (drop 1 bytes) ≡ Ok (n, behind) → 2 ^ 32 ≤ n → NoFrame bytes
+long_length bytes behind n read long tag content is =
+    let fits : length content < 2 ^ 32 = (front bytes tag content is).fits in
+    let same : length content ≡ n = (front_both bytes behind tag n content read is).0 in
+    absurd (omega arith)
+
+-- it is not that of what follows
+pub other_length : (bytes behind : List ℕ) (n : ℕ) → reader.length_at (drop 1 bytes) ≡ Ok (n, behind) → n ≢ length behind → NoFrame bytes
+other_length bytes behind n read ne tag content is =
+    let both = front_both bytes behind tag n content read is in
+    ne (sym both.0 ∙ ap length both.1)
 
 -- a frame has one tag and one content
 pub one_frame : (tag tag' : ℕ) (content content' bytes : List ℕ) → IsFrame tag content bytes → IsFrame tag' content' bytes → (tag ≡ tag') × (content ≡ content')

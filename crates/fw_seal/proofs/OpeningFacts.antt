@@ -1,9 +1,9 @@
 -- What opens is a sealing, and what is refused is none.
-use Rattle.std.proofs.Common.{◌≡◌, ℕ, ◌^◌, ◌<◌, List, [], ◌∷◌, ◌++◌, Some, refl, sym, ap, ◌∙◌, subst}
+use Rattle.std.proofs.Common.{◌≡◌, ◌≢◌, ℕ, ◌^◌, ◌<◌, List, [], ◌∷◌, ◌++◌, Some, refl, sym, ap, ◌∙◌, subst}
 use Rattle.std.specs.Int.{w32, to_be_bytes}
 use Rattle.fw_aes.specs.Gcm.{ciphertext_of, plaintext_of, tag_of}
 use Rattle.fw_aes.specs.Laws.{OpensWhatWasSealed}
-use Rattle.fw_seal.specs.Sealing.{IsContent, IsFrame, IsSealing, Keys, aad_of, content_of, iv_of, tag_for}
+use Rattle.fw_seal.specs.Sealing.{IsContent, IsFrame, IsSealing, Keys, NoContent, NoFrame, NoSealing, aad_of, content_of, iv_of, tag_for}
 use Rattle.fw_seal.specs.Laws.{OneSealing}
 use Rattle.fw_seal.proofs.ContentFacts.{content_parts, mac_in, one_content, text_in}
 use Rattle.fw_seal.proofs.FrameFacts.{one_frame}
@@ -58,6 +58,31 @@ sealing_apdu law keys title apdu bytes content text mac items tag counter number
     let parts = sealing_parts keys title apdu bytes content text mac tag counter number is framed filled in
     ei ∙ ap (λ (n : ℕ). plaintext_of keys.encryption (iv_of title n) text) parts.0 ∙ ap (plaintext_of keys.encryption (iv_of title number)) parts.1
     ∙ law keys.encryption (iv_of title number) apdu
+
+-- ---- why bytes are no sealing
+
+-- they are no frame
+pub no_frame : (keys : Keys) (title bytes : List ℕ) → NoFrame bytes → NoSealing keys title bytes
+no_frame keys title bytes none number apdu is = none is.tag (content_of keys title number apdu) is.framed
+
+-- what is in the frame is no content
+pub no_content : (keys : Keys) (title bytes content : List ℕ) (tag : ℕ) → IsFrame tag content bytes → NoContent content
+    → NoSealing keys title bytes
+no_content keys title bytes content tag framed none number apdu is =
+    none number (text_in keys title number apdu) (mac_in keys title number apdu) (sealing_content keys title apdu bytes content tag number is framed)
+
+-- its tag is wrong
+pub wrong_mac : (keys : Keys) (title bytes content text mac : List ℕ) (tag counter : ℕ) → IsFrame tag content bytes → IsContent counter text mac content
+    → mac ≢ tag_of keys.encryption (iv_of title counter) (aad_of keys.authentication) text → NoSealing keys title bytes
+wrong_mac keys title bytes content text mac tag counter framed filled ne number apdu is =
+    ne (sealing_mac keys title apdu bytes content text mac tag counter number is framed filled)
+
+-- what was deciphered has another tag
+pub other_tag : OpensWhatWasSealed → (keys : Keys) (title bytes content text mac items : List ℕ) (tag counter : ℕ) → IsFrame tag content bytes → IsContent counter text mac content
+    → items ≡ plaintext_of keys.encryption (iv_of title counter) text → (tag_for items ≡ Some tag → ⊥) → NoSealing keys title bytes
+other_tag law keys title bytes content text mac items tag counter framed filled ei ne number apdu is =
+    let same = sealing_apdu law keys title apdu bytes content text mac items tag counter number is framed filled ei in
+    ne (ap tag_for same ∙ (sealing_parts keys title apdu bytes content text mac tag counter number is framed filled).3)
 
 pub one_sealing : OpensWhatWasSealed → OneSealing
 one_sealing law keys title counter number apdu more bytes is other =

@@ -56,18 +56,26 @@ pub record IsContent (counter : ℕ) (text mac content : List ℕ) : Type 0 wher
   pub mac_size : length mac ≡ 12
   pub parts : content ≡ security_control ∷ to_be_bytes w32 counter ++ text ++ mac
 
+-- it is none
+abbrev pub NoContent : List ℕ → Type 0
+NoContent content = (counter : ℕ) (text mac : List ℕ) → IsContent counter text mac content → ⊥
+
 -- the content of the sealings of an APDU, under these keys, by the end with this title, with this counter
 unfoldable pub content_of : Keys → List ℕ → ℕ → List ℕ → List ℕ
 content_of keys title counter apdu =
     let text = ciphertext_of keys.encryption (iv_of title counter) apdu in
     security_control ∷ to_be_bytes w32 counter ++ text ++ tag_of keys.encryption (iv_of title counter) (aad_of keys.authentication) text
 
--- a tag, a length in any form, and a content which has it
+-- bytes that are a tag, a length in any form, and a content which has it
 pub record IsFrame (tag : ℕ) (content bytes : List ℕ) : Type 0 where
   pub size : length content < 2 ^ 32
   pub len : List ℕ
   pub is_length : IsLength len (length content)
   pub parts : bytes ≡ tag ∷ len ++ content
+
+-- they are none
+abbrev pub NoFrame : List ℕ → Type 0
+NoFrame bytes = (tag : ℕ) (content : List ℕ) → IsFrame tag content bytes → ⊥
 
 -- these bytes are a sealing of an APDU, under these keys, by the end with this title, with this counter
 pub record IsSealing (keys : Keys) (title : List ℕ) (counter : ℕ) (apdu bytes : List ℕ) : Type 0 where

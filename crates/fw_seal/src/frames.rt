@@ -1,8 +1,8 @@
 //! Frames, which are a tag, a length and a content, and the parts of a content.
 
-ghost use Rattle.std.specs.Prelude.{◌≡◌, ℕ, ◌≤◌, List, ◌∷◌, ◌++◌, length, OnOk, IfSome, IsSomeAnd};
+ghost use Rattle.std.specs.Prelude.{◌≡◌, ◌≤◌, ◌∷◌, ◌++◌, length, OnOk, IfSome, IfNone};
 ghost use Rattle.fw_axdr.specs.Spelling.{short_length};
-ghost use Rattle.fw_seal.specs.Sealing.{IsContent, IsFrame};
+ghost use Rattle.fw_seal.specs.Sealing.{IsContent, IsFrame, NoContent, NoFrame};
 
 use fw_aes::TAG_SIZE;
 use fw_reader::Reader;
@@ -28,8 +28,7 @@ pub(crate) struct Parts<'a> {
 /// The tag and the content of a frame.
 pub(crate) fn frame(bytes: &[u8]) -> Option<(u8, &[u8])>
     ensures found { IfSome result (λ f. IsFrame f.0 f.1.now bytes.now) }
-    ensures unique { (tag : ℕ) (content : List ℕ) → IsFrame tag content bytes.now
-        → IsSomeAnd result (λ f. (f.0 ≡ tag) × (f.1.now ≡ content)) }
+    ensures none { IfNone result (NoFrame bytes.now) }
 {
     let [tag, rest @ ..] = bytes else {
         return None;
@@ -38,7 +37,10 @@ pub(crate) fn frame(bytes: &[u8]) -> Option<(u8, &[u8])>
     let Ok(len) = reader.length() else {
         return None;
     };
-    if len > MAX_CONTENT || reader.len() != len {
+    if len > MAX_CONTENT {
+        return None;
+    }
+    if reader.len() != len {
         return None;
     }
     let Ok(content) = reader.bytes(len) else {
@@ -51,8 +53,7 @@ pub(crate) fn frame(bytes: &[u8]) -> Option<(u8, &[u8])>
 pub(crate) fn parts_of(bytes: &[u8]) -> Option<Parts<'_>>
     ensures found { IfSome result (λ p. IsContent p.counter p.text.now p.mac.now bytes.now) }
     ensures size { IfSome result (λ p. length p.text.now ≤ length bytes.now) }
-    ensures unique { (counter : ℕ) (text mac : List ℕ) → IsContent counter text mac bytes.now
-        → IsSomeAnd result (λ p. (p.counter ≡ counter) × (p.text.now ≡ text) × (p.mac.now ≡ mac)) }
+    ensures none { IfNone result (NoContent bytes.now) }
 {
     let [control, c3, c2, c1, c0, rest @ ..] = bytes else {
         return None;

@@ -4,6 +4,7 @@
 //! What is sealed and what opens are those of specs/Sealing.antt. Lengths are those of A-XDR.
 #![tactic(auto)]
 
+mod contents;
 mod counters;
 mod error;
 mod frames;

@@ -1,23 +1,20 @@
 //! What an end knows of a link, what it seals, and what it opens.
 
-ghost use Rattle.std.specs.Prelude.{◌≡◌, ◌≢◌, ◌+◌, ◌-◌, ◌<◌, ◌≤◌, ◌^◌, ◌++◌, ◌∷◌, length, None, IfOk, IfErr, OnOk, OnErr, SomeIff, MatchOption};
-ghost use Rattle.fw_aes.specs.Gcm.{plaintext_of, tag_of};
-ghost use Rattle.fw_seal.specs.Refusal.{IfRefused, IsRefusal, max_apdu, refusal_of};
-ghost use Rattle.fw_seal.specs.Sealing.{HasForm, IsSealing, IsShortSealing, IsTaken, NoSealing, aad_of, content_of, iv_of, tag_for};
+ghost use Rattle.std.specs.Prelude.{◌≡◌, ◌≢◌, ◌++◌, ◌∷◌, length, None, IfOk, IfErr, OnOk, OnErr, SomeIff};
+ghost use Rattle.fw_seal.specs.Refusal.{IfRefused, IsRefusal, refusal_of};
+ghost use Rattle.fw_seal.specs.Sealing.{HasForm, IsSealing, IsShortSealing, IsTaken, NoSealing};
 
+use crate::contents::{Keys, OVERHEAD};
 use crate::counters::Counters;
 use crate::error::{OpenError, SealError};
-use crate::frames::{Parts, SECURITY_CONTROL, frame, parts_of, put_head};
+use crate::frames::{frame, parts_of, put_head};
 use crate::service::tag_for;
-use fw_aes::{Key, TAG_SIZE};
-use std::alloc::{AllocError, Global};
+use fw_aes::Key;
+use std::alloc::Global;
 use std::marker::Model;
 
 /// How many bytes a system title has.
 pub const TITLE_SIZE: usize = 8;
-
-/// How many bytes a content has beside its ciphertext: the security control byte, the invocation counter, and the tag.
-const OVERHEAD: usize = 5 + TAG_SIZE;
 
 /// The longest APDU that is sealed, in bytes.
 const MAX_APDU: usize = 0xffff_ffff - OVERHEAD;
@@ -29,8 +26,7 @@ const MAX_HEAD: usize = 6;
 /// no key is printed, and it isn't wiped if it is let go.
 #[derive(Drop)]
 pub struct Link {
-    encryption: Key,
-    authentication: [u8; 16],
+    keys: Keys,
     own: [u8; TITLE_SIZE],
     other: [u8; TITLE_SIZE],
 }
@@ -42,7 +38,7 @@ impl Model for Link {
     ghost Value = { Ends };
 
     ghost view = { λ l. record {
-      keys = record { encryption = l.encryption; authentication = l.authentication };
+      keys = record { encryption = l.keys.encryption; authentication = l.keys.authentication };
       own = l.own;
       other = l.other;
     } };
@@ -56,25 +52,6 @@ pub struct Opened {
     /// The invocation counter that it was sealed with.
     pub counter: u32,
     pub apdu: Vec<u8>,
-}
-
-/// The initialization vector of what the end with this title seals with this counter.
-fn iv(title: &[u8; TITLE_SIZE], counter: u32) -> [u8; 12]
-    ensures { result ≡ iv_of title.now counter }
-{
-    let mut iv = [0u8; 12];
-    iv[..TITLE_SIZE].copy_from_slice(title);
-    iv[TITLE_SIZE..].copy_from_slice(&counter.to_be_bytes());
-    iv
-}
-
-/// The additional data under an authentication key.
-fn aad(authentication: &[u8; 16]) -> [u8; 17]
-    ensures { result ≡ aad_of authentication.now }
-{
-    let mut aad = [SECURITY_CONTROL; 17];
-    aad[1..].copy_from_slice(authentication);
-    aad
 }
 
 impl Link {
@@ -95,33 +72,18 @@ impl Link {
         if *own == *other {
             return None;
         }
-        Some(Link {
+        let keys = Keys {
             encryption: Key::new(encryption),
             authentication: *authentication,
+        };
+        Some(Link {
+            keys,
             own: *own,
             other: *other,
         })
     }
 
-    /// The content of an APDU's sealings with this counter.
-    fn content(&self, alloc: Global, counter: u32, apdu: &[u8]) -> Result<Vec<u8>, AllocError>
-        requires { length apdu.now ≤ max_apdu }
-        ensures content { IfOk result (λ v. v.items ≡ content_of self.now.keys self.now.own counter apdu.now) }
-        ensures len { IfOk result (λ v. length v.items ≡ 17 + length apdu.now) }
-    {
-        let mut text = Vec::from_slice(alloc, apdu)?;
-        let iv = iv(&self.own, counter);
-        let aad = aad(&self.authentication);
-        let mac = self.encryption.seal(&iv, &aad, text.as_mut_slice());
-        let mut content = Vec::with_capacity(alloc, OVERHEAD + apdu.len())?;
-        content.push(SECURITY_CONTROL)?;
-        content.extend_from_slice(&counter.to_be_bytes())?;
-        content.extend_from_slice(text.as_slice())?;
-        content.extend_from_slice(&mac)?;
-        Ok(content)
-    }
-
-    /// Seals an APDU, as GET, SET or ACTION have it, with the next counter, which is taken then.
+    /// Seals an APDU of GET, SET or ACTION with the next counter, which is taken then.
     ///
     /// # Errors
     ///
@@ -147,32 +109,12 @@ impl Link {
         if counters.left() == 0 {
             return Err(SealError::CounterSpent);
         }
-        let content = self.content(alloc, counters.next(), apdu)?;
+        let content = self.keys.content(alloc, &self.own, counters.next(), apdu)?;
         let mut sealing = Vec::with_capacity(alloc, MAX_HEAD + content.len())?;
         put_head(&mut sealing, tag, content.len() as u32)?;
         sealing.extend_from_slice(content.as_slice())?;
         counters.take();
         Ok(sealing)
-    }
-
-    /// The plaintext of a content of the other end, if its tag is right.
-    fn plaintext(&self, alloc: Global, parts: Parts<'_>) -> Result<Option<Vec<u8>>, AllocError>
-        requires { length parts.text.now < 2 ^ 32 }
-        ensures { IfOk result (λ found. let iv = iv_of self.now.other parts.counter in
-            let tag = tag_of self.now.keys.encryption iv (aad_of self.now.keys.authentication) parts.text.now in
-            MatchOption found (parts.mac.now ≢ tag) (λ v.
-            (parts.mac.now ≡ tag) × (v.items ≡ plaintext_of self.now.keys.encryption iv parts.text.now))) }
-    {
-        let mut text = Vec::from_slice(alloc, parts.text)?;
-        let iv = iv(&self.other, parts.counter);
-        let aad = aad(&self.authentication);
-        match self
-            .encryption
-            .open(&iv, &aad, text.as_mut_slice(), parts.mac)
-        {
-            Ok(()) => Ok(Some(text)),
-            Err(_) => Ok(None),
-        }
     }
 
     /// Opens what the other end sealed, with a length in any form.
@@ -185,6 +127,7 @@ impl Link {
         ensures opens { IfOk result (λ o. IsSealing self.now.keys self.now.other o.counter o.apdu.items bytes.now) }
         ensures refused { IfErr result (λ e. IfRefused e (NoSealing self.now.keys self.now.other bytes.now) (HasForm bytes.now)) }
     {
+        fw_aes::laws::opens_what_was_sealed();
         let Some((tag, content)) = frame(bytes) else {
             return Err(OpenError::NotSealed);
         };
@@ -192,7 +135,7 @@ impl Link {
             return Err(OpenError::NotSealed);
         };
         let counter = parts.counter;
-        let Some(apdu) = self.plaintext(alloc, parts)? else {
+        let Some(apdu) = self.keys.plaintext(alloc, &self.other, parts)? else {
             return Err(OpenError::NotSealed);
         };
         match tag_for(apdu.as_slice()) {

@@ -1,7 +1,7 @@
 use Rattle.std.proofs.Common.{◌≡◌, ℕ, List, [], ◌∷◌, ◌++◌, length, drop, refl, arith, append-nil, length-append, length-drop}
 use Rattle.std.proofs.lemmas.List.{take_at, drop_all}
 use Rattle.std.specs.Int.{w32, to_be_bytes}
-use Rattle.fw_seal.proofs.link.iv.Goals as goal
+use Rattle.fw_seal.proofs.contents.iv.Goals as goal
 use borrow.Rule.Slice.PartMut.{put_mid, post_of}
 
 -- a vector of 8 bytes and 4 bytes
