@@ -1,16 +1,16 @@
 -- A frame, and how it is read.
-use Rattle.std.proofs.Common.{◌≡◌, ◌≢◌, ℕ, ◌+◌, ◌^◌, ◌<◌, ◌≤◌, false, ltb, List, [], ◌∷◌, ◌++◌, length, take, drop, Result, Ok, Err, refl, sym, ap, subst, ◌∙◌, arith, get_or}
+use Rattle.std.proofs.Common.{◌≡◌, ◌≢◌, ℕ, ◌-◌, ◌^◌, ◌<◌, ◌≤◌, false, ltb, List, [], ◌∷◌, ◌++◌, length, take, drop, Result, Ok, Err, refl, sym, ap, subst, ◌∙◌, arith, get_or}
 use Rattle.std.specs.Result.{MatchResult}
 use Rattle.std.proofs.lemmas.Bool.{le-ltb}
 use Rattle.std.proofs.lemmas.List.{take_all}
 use Rattle.fw_reader.specs.declared.error.ReadError.{ReadError}
 use Rattle.fw_reader.specs.Reading as reader
-use Rattle.fw_axdr.specs.declared.error.AxdrError.{AxdrError}
 use Rattle.fw_axdr.specs.Fault.{LengthFails}
-use Rattle.fw_axdr.specs.Private.{seen, length_at}
+use Rattle.fw_axdr.specs.Private.{seen}
 use Rattle.fw_axdr.specs.Spelling.{IsLength}
 use Rattle.fw_axdr.proofs.Lengths.{LengthTaken, length_again, length_sound}
 use Rattle.fw_seal.specs.Sealing.{IsFrame, NoFrame}
+use Rattle.fw_seal.proofs.ContentFacts.{rest_is}
 
 -- what is in an `Ok`
 abbrev ok_value : {A E : Type 0} → Result A E → A → A
@@ -62,6 +62,11 @@ frame_found (b ∷ rest) behind content n some e en fits ec =
       is_length = subst (IsLength taken.len) same taken.is;
       parts = ap (λ (xs : List ℕ). b ∷ xs) (taken.parts ∙ ap (λ (xs : List ℕ). taken.len ++ xs) (sym ec));
     }
+
+-- the same, from what a pattern leaves behind the first byte
+pub read_behind : (bytes start : List ℕ) (r : Result (ℕ × List ℕ) ReadError) → start ≡ take (length bytes - 1) (drop 1 bytes) → reader.length_at start ≡ r
+    → reader.length_at (drop 1 bytes) ≡ r
+read_behind bytes start r es e = sym (ap reader.length_at (es ∙ rest_is 1 bytes)) ∙ e
 
 -- as many bytes as there are
 all_bytes : (bytes : List ℕ) (n : ℕ) → n ≡ length bytes → reader.bytes_at n bytes ≡ Ok (take n bytes, drop n bytes)

@@ -1,5 +1,5 @@
 -- What opens is a sealing, and what is refused is none.
-use Rattle.std.proofs.Common.{◌≡◌, ◌≢◌, ℕ, ◌^◌, ◌<◌, List, [], ◌∷◌, ◌++◌, Some, refl, sym, ap, ◌∙◌, subst}
+use Rattle.std.proofs.Common.{◌≡◌, ◌≢◌, ℕ, List, ◌∷◌, ◌++◌, Option, Some, None, sym, ap, ◌∙◌, subst}
 use Rattle.std.specs.Int.{w32, to_be_bytes}
 use Rattle.fw_aes.specs.Gcm.{ciphertext_of, plaintext_of, tag_of}
 use Rattle.fw_aes.specs.Laws.{OpensWhatWasSealed}
@@ -76,6 +76,19 @@ pub wrong_mac : (keys : Keys) (title bytes content text mac : List ℕ) (tag cou
     → mac ≢ tag_of keys.encryption (iv_of title counter) (aad_of keys.authentication) text → NoSealing keys title bytes
 wrong_mac keys title bytes content text mac tag counter framed filled ne number apdu is =
     ne (sealing_mac keys title apdu bytes content text mac tag counter number is framed filled)
+
+abbrev some_value : Option ℕ → ℕ
+some_value (Some n) = n
+some_value None = 0
+
+-- a tag that is another one, and none
+pub not_other : (r : Option ℕ) (found tag : ℕ) → r ≡ Some found → (found ≡ tag → ⊥) → r ≡ Some tag → ⊥
+not_other r found tag is ne e = ne (ap (λ (o : Option ℕ). some_value o) (sym is ∙ e))
+
+pub not_none : (r : Option ℕ) (tag : ℕ) → r ≡ None → r ≡ Some tag → ⊥
+not_none r tag is e =
+    let both = sym is ∙ e in
+    cc
 
 -- what was deciphered has another tag
 pub other_tag : OpensWhatWasSealed → (keys : Keys) (title bytes content text mac items : List ℕ) (tag counter : ℕ) → IsFrame tag content bytes → IsContent counter text mac content

@@ -1,8 +1,8 @@
 -- What is made is a sealing.
-use Rattle.std.proofs.Common.{◌≡◌, ℕ, ◌+◌, ◌-◌, ◌^◌, ◌<◌, ◌≤◌, List, [], ◌∷◌, ◌++◌, length, Some, refl, ap, ◌∙◌, arith}
+use Rattle.std.proofs.Common.{◌≡◌, ℕ, ◌^◌, ◌<◌, List, [], ◌∷◌, ◌++◌, length, Some, ap, ◌∙◌, arith}
 use Rattle.fw_axdr.specs.Spelling.{short_length}
 use Rattle.fw_axdr.proofs.Lengths.{short_is_length}
-use Rattle.fw_seal.specs.Sealing.{IsSealing, IsShortSealing, Keys, content_of, tag_for}
+use Rattle.fw_seal.specs.Sealing.{IsShortSealing, Keys, content_of, tag_for}
 use Rattle.fw_seal.specs.Laws.{ShortIsSealing}
 
 pub short_is_sealing : ShortIsSealing

@@ -75,10 +75,10 @@ impl Keys {
         parts: Parts<'_>,
     ) -> Result<Option<Vec<u8>>, AllocError>
         requires { length parts.text.now < 2 ^ 32 }
-        ensures { IfOk result (λ found. let iv = iv_of title.now parts.counter in
-            let tag = tag_of self.now.encryption iv (aad_of self.now.authentication) parts.text.now in
-            MatchOption found (parts.mac.now ≢ tag) (λ v.
-            (parts.mac.now ≡ tag) × (v.items ≡ plaintext_of self.now.encryption iv parts.text.now))) }
+        ensures { IfOk result (λ found. let iv = iv_of title.now parts.entry.counter in
+            let tag = tag_of self.now.encryption iv (aad_of self.now.authentication) parts.entry.text.now in
+            MatchOption found (parts.entry.mac.now ≢ tag) (λ v.
+            (parts.entry.mac.now ≡ tag) × (v.items ≡ plaintext_of self.now.encryption iv parts.entry.text.now))) }
     {
         let mut text = Vec::from_slice(alloc, parts.text)?;
         let opened = self.encryption.open(

@@ -14,11 +14,14 @@ pub struct Counters {
 }
 
 impl Model for Counters {
+    ghost use Rattle.std.specs.Prelude.{◌<◌, ◌^◌};
     ghost use Rattle.fw_seal.specs.Sealing.{CounterRange};
 
     ghost Value = { CounterRange };
 
     ghost view = { λ c. record { next = c.next; end = c.end } };
+
+    ghost invariant = { λ c. c.end < 2 ^ 32 };
 }
 
 impl Counters {
