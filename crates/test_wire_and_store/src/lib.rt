@@ -1,10 +1,13 @@
-//! Tests of what goes over the wire (numbers and lengths, A-XDR Data, the wrapper, the services, image names, captures), of the blocks of
-//! an image, of the header of a store, of stores in memory, on devices and in files, of files of a folder in memory, of journals, of the
-//! digest of a slot, of Image transfer over a store in memory, and of what a meter makes of requests and how it spells answers, through
-//! their public calls alone, and callers that are proved from the public contracts alone. Expected bytes are worked out by hand from the
-//! standards and the formats, and SHA-256 values are the published ones or those of `sha256sum`.
+//! Tests of what goes over the wire (numbers and lengths, A-XDR Data, the wrapper, the services, image names, captures, AES-128 and GCM,
+//! sealed APDUs), of the blocks of an image, of the header of a store, of stores in memory, on devices and in files, of files of a folder
+//! in memory, of journals, of the digest of a slot, of Image transfer over a store in memory, and of what a meter makes of requests and how
+//! it spells answers, through their public calls alone, and callers that are proved from the public contracts alone. Expected bytes are
+//! worked out by hand from the standards and the formats, or are those of the standards' examples, and SHA-256 values are the published
+//! ones or those of `sha256sum`.
 #![tactic(auto)]
 
+#[cfg(test)]
+mod aes_tests;
 #[cfg(test)]
 mod answers;
 #[cfg(test)]
@@ -53,6 +56,8 @@ mod refusals;
 mod replying;
 #[cfg(test)]
 mod round_trip;
+#[cfg(test)]
+mod seal_tests;
 #[cfg(test)]
 mod session;
 #[cfg(test)]

@@ -1,0 +1,15 @@
+pub mod EveryByte
+pub mod EntryFacts
+pub mod SubFacts
+pub mod RoundFacts
+pub mod KeyFacts
+pub mod ListFacts
+pub mod XorSums
+pub mod VFacts
+pub mod ByteFacts
+pub mod DotFacts
+pub mod RowNumber
+pub mod MaskFacts
+pub mod BlockFacts
+pub mod StreamFacts
+pub mod TagFacts

@@ -1,0 +1,4 @@
+pub mod ContentFacts
+pub mod FrameFacts
+pub mod OpeningFacts
+pub mod SealingFacts
