@@ -16,6 +16,8 @@ mod books;
 #[cfg(test)]
 mod client;
 #[cfg(test)]
+mod counters;
+#[cfg(test)]
 mod ends;
 #[cfg(test)]
 mod head;
