@@ -61,9 +61,9 @@ pub fn run_status<F: Files<File = File> + Eprint, W: Write>(
     writer: &mut W,
     options: &StatusOptions<'_>,
 ) -> Result<(), Because<Fault>>
-    // Of the file's contents nothing is known here, so the rows are some.
-    ensures ok { OnOk result ((rows : List RowEntry) × Appends (W.contents writer.old) (W.contents writer.new)
-        (status_text options.now.report rows)) }
+    // Of the file's contents nothing is known here, so the bytes are some. The report is of all rows of the book that they hold.
+    ensures ok { OnOk result ((bytes : List ℕ) × (rows : List RowEntry) × HasRows bytes rows
+        × Appends (W.contents writer.old) (W.contents writer.new) (status_text options.now.report rows)) }
     ensures silent { IfErr result (λ b. b.error ≢ Fault.Output → Keeps (W.contents writer.old) (W.contents writer.new)) }
     ensures reason { IfErr result (λ b. SaysWhy b.error b.reason) }
     ensures faults { IfErr result (λ b. IsOfStatus b.error) }
