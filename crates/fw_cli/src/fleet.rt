@@ -14,7 +14,6 @@ ghost use Rattle.std.specs.Prelude.{
   IsErr,
   IsTrue,
   OnOk,
-  All,
   MatchOption,
   None,
   Some,
@@ -24,7 +23,7 @@ ghost use Rattle.std.specs.Io.KnownBytes.{Appends, Keeps};
 ghost use Rattle.std.specs.Net.Socket.{socket_port};
 ghost use Rattle.fw_store.specs.Setup.{IsSetup};
 ghost use Rattle.fw_store.specs.declared.version.HeaderVersion.TheVariants.{Two};
-ghost use Rattle.fw_cli.specs.Fleets.{HasHeads, IsAddressOf, path_of, port_of};
+ghost use Rattle.fw_cli.specs.Fleets.{IsAddressOf, port_of};
 ghost use Rattle.fw_cli.specs.Faults.{IsOfMeter, IsOfServing, NamesMeter};
 ghost use Rattle.fw_host.specs.Captures.{IsOfCapture};
 ghost use Rattle.fw_host.specs.Meters.{IsOfSetup, IsOfStore, default_factory, listening_line};
@@ -32,7 +31,7 @@ ghost use Rattle.fw_cli.specs.declared.fleet.Member.{Member};
 
 use crate::capture_file::{CaptureFile, closing, failure_of};
 use crate::judged::{Judge, Judged};
-use crate::meter::{Listening, MeterFault, MeterOptions, Teller, heads_of, strangers_of};
+use crate::meter::{Listening, MeterFault, MeterOptions, Teller, strangers_of};
 use fw_daemon::{Dropped, MeterDaemon, Watch, step};
 use fw_disk::Because;
 use fw_faults::{Fault, write_text};
@@ -144,7 +143,6 @@ fn serve_members<R: Files<File = File> + Clock + Wait, W: Write>(
     file: Option<CaptureFile>,
     options: &MeterOptions<'_>,
 ) -> Result<(), Because<Fault>>
-    requires heads { All (HasHeads options.now.heads.items) members.items }
     ensures ends { IsErr result }
     ensures silent { IfErr result (λ b. b.error ≢ Fault.Socket → b.error ≢ Fault.Output → b.error ≢ Fault.CaptureFault
         → Keeps (W.contents writer.old) (W.contents writer.new)) }
@@ -254,7 +252,6 @@ fn numbered_meter<F: Files<File = File>>(
 
 /// The path of the file of the meter of this number.
 fn numbered_path(alloc: Global, store: &str, number: u32) -> Result<String, Fault>
-    ensures path { IfOk result (λ path. string_bytes path ≡ path_of store.now number) }
     ensures faults { IfErr result (λ f. f ≡ Fault.OutOfMemory) }
 {
     Ok(format!(in alloc; "{store}.{number}")?)
@@ -270,7 +267,6 @@ fn members_of<F: Files<File = File>>(
 ) -> Result<Vec<Member>, MeterFault>
     requires { length sites.items ≡ count }
     ensures count { IfOk result (λ members. length members.items ≡ count) }
-    ensures heads { IfOk result (λ members. All (HasHeads options.now.heads.items) members.items) }
     ensures number { IfErr result (NamesMeter (Some count)) }
     ensures faults { IfErr result (λ e. (e.fault ≡ Fault.OutOfMemory) ⊎ IsOfStore e.fault) }
 {
@@ -298,7 +294,6 @@ fn new_member<F: Files<File = File>>(
     site: Site,
     number: u32,
 ) -> Result<Member, Because<Fault>>
-    ensures heads { IfOk result (HasHeads options.now.heads.items) }
     ensures faults { IfErr result (λ b. (b.error ≡ Fault.OutOfMemory) ⊎ IsOfStore b.error) }
 {
     let Site {
@@ -313,6 +308,13 @@ fn new_member<F: Files<File = File>>(
         at,
         daemon: MeterDaemon::new(meter, heads),
     })
+}
+
+/// The addresses that may ask a meter.
+fn heads_of(alloc: Global, options: &MeterOptions<'_>) -> Result<Vec<SocketAddr>, Fault>
+    ensures faults { IfErr result (λ f. f ≡ Fault.OutOfMemory) }
+{
+    Ok(Vec::from_slice(alloc, &options.heads)?)
 }
 
 /// The address that the meter of this number receives at, if there is such a port: as many ports after that of the first meter as there are

@@ -1,15 +1,12 @@
 //! The command `meter`: a meter in a file answers datagrams over UDP until it is ended.
 
-ghost use Rattle.std.specs.Prelude.{◌≡◌, ◌≢◌, ◌⊎◌, None, Some, IfErr, IfOk, IsErr, IsTrue, OnOk, is_some};
+ghost use Rattle.std.specs.Prelude.{◌≡◌, ◌≢◌, ◌⊎◌, None, Some, IfErr, IsErr, IsTrue, OnOk, is_some};
 ghost use Rattle.std.specs.Io.KnownBytes.{Appends, Keeps};
-ghost use Rattle.std.specs.declared.net.socket_addr.SocketAddr.{SocketAddr as Address};
-ghost use Rattle.fw_daemon.specs.Daemon.{daemon_of};
 ghost use Rattle.fw_store.specs.Setup.{IsSetup};
 ghost use Rattle.fw_store.specs.declared.version.HeaderVersion.TheVariants.{Two};
 ghost use Rattle.fw_cli.specs.Faults.{IsOfMeter, IsOfServing, NamesMeter};
 ghost use Rattle.fw_host.specs.Captures.{IsOfCapture};
 ghost use Rattle.fw_host.specs.Meters.{activated_line, default_factory, dropped_line, listening_line};
-ghost use Rattle.fw_host.specs.Strangers.{is_strange, is_stranger};
 
 use crate::capture_file::{CaptureFile, closing, failure_of};
 use crate::fleet::serve_fleet;
@@ -151,7 +148,7 @@ pub fn run_meter<R: Files<File = File> + Clock + Net + Wait, W: Write>(
 {
     match options.count {
         Some(count) => serve_fleet(rt, alloc, writer, &options, count),
-        None => match serve_one(rt, alloc, writer, &options) {
+        None => match serve_one(rt, alloc, writer, options) {
             Ok(()) => Ok(()),
             Err(because) => Err(MeterFault::from(because)),
         },
@@ -163,23 +160,22 @@ fn serve_one<R: Files<File = File> + Clock + Net + Wait, W: Write>(
     rt: &R,
     alloc: Global,
     writer: &mut W,
-    options: &MeterOptions<'_>,
+    options: MeterOptions<'_>,
 ) -> Result<(), Because<Fault>>
     ensures ends { IsErr result }
-    ensures bad_setup { options.now.fresh.factory_file ≡ None → IfErr result (λ b. b.error ≡ Fault.BadSetup
-        → ¬ IsSetup Two options.now.fresh.block_size options.now.fresh.capacity default_factory) }
+    ensures bad_setup { options.entry.fresh.factory_file ≡ None → IfErr result (λ b. b.error ≡ Fault.BadSetup
+        → ¬ IsSetup Two options.entry.fresh.block_size options.entry.fresh.capacity default_factory) }
     ensures silent { IfErr result (λ b. b.error ≢ Fault.Socket → b.error ≢ Fault.Output → b.error ≢ Fault.CaptureFault
         → Keeps (W.contents writer.old) (W.contents writer.new)) }
-    ensures asked { IfErr result (λ b. IsOfCapture b.error → IsTrue (is_some options.now.capture)) }
+    ensures asked { IfErr result (λ b. IsOfCapture b.error → IsTrue (is_some options.entry.capture)) }
     ensures faults { IfErr result (λ b. IsOfMeter b.error) }
 {
     let Listening { port, at } = Listening::of(UdpPort::bind(rt, options.listen))?;
     let judged = Judge::of(options.fresh).meter(rt, alloc, options.store)?;
     let strangers = strangers_of(alloc, &options.heads, options.captures_strangers)?;
-    let heads = heads_of(alloc, options)?;
     let file = CaptureFile::opened(rt, alloc, options.capture)?;
     let meter = judged.made(rt, options.store)?;
-    let mut daemon = MeterDaemon::new(meter, heads);
+    let mut daemon = MeterDaemon::new(meter, options.heads);
     serve_daemon(
         rt,
         alloc,
@@ -192,16 +188,7 @@ fn serve_one<R: Files<File = File> + Clock + Net + Wait, W: Write>(
             capture: options.capture,
         },
         &mut daemon,
-        options,
     )
-}
-
-/// The addresses that may ask a meter.
-pub(crate) fn heads_of(alloc: Global, options: &MeterOptions<'_>) -> Result<Vec<SocketAddr>, Fault>
-    ensures heads { IfOk result (λ heads. heads.items ≡ options.now.heads.items) }
-    ensures faults { IfErr result (λ f. f ≡ Fault.OutOfMemory) }
-{
-    Ok(Vec::from_slice(alloc, &options.heads)?)
 }
 
 /// The strangers to meters that just these addresses may ask, if there is one.
@@ -210,7 +197,6 @@ pub(crate) fn strangers_of(
     heads: &[SocketAddr],
     are_recorded: bool,
 ) -> Result<Strangers, Fault>
-    ensures known { IfOk result (λ s. (address : Address) → is_stranger s.known address ≡ is_strange heads.now address) }
     ensures faults { IfErr result (λ f. f ≡ Fault.OutOfMemory) }
 {
     Ok(Strangers::of_meter(alloc, heads, are_recorded)?)
@@ -233,11 +219,7 @@ fn serve_daemon<R: Files<File = File> + Clock + Wait, W: Write>(
     writer: &mut W,
     port: RecordedPort<'_>,
     daemon: &mut MeterDaemon<FileStore>,
-    options: &MeterOptions<'_>,
 ) -> Result<(), Because<Fault>>
-    // Just the addresses of the options may ask, and who has none of them is a stranger.
-    requires heads { (daemon_of daemon.old).heads ≡ options.now.heads.items }
-    requires strangers { (address : Address) → is_stranger port.entry.strangers.known address ≡ is_strange options.now.heads.items address }
     ensures ends { IsErr result }
     ensures silent { IfErr result (λ b. b.error ≢ Fault.Socket → b.error ≢ Fault.Output → b.error ≢ Fault.CaptureFault
         → Keeps (W.contents writer.old) (W.contents writer.new)) }
