@@ -18,10 +18,11 @@ REFUSED_BY = "refused-by"
 
 class Edit:
     """One edit: its name, its file, its text without the line of what refused it, that line, the test or the step of a run that it
-    names, if it names one, and the pairs of it by file."""
+    names, if it names one, what has to be checked beside the functions that it changes, and the pairs of it by file."""
 
     def __init__(self, name, path):
-        self.name, self.path, self.test, self.seen_by, self.refused_by, self.pairs = name, path, None, None, None, []
+        self.name, self.path, self.test, self.seen_by, self.refused_by = name, path, None, None, None
+        self.checks, self.pairs = [], []
         with open(path, encoding="utf-8") as it:
             lines = it.read().split("\n")
         self.text = "\n".join(line for line in lines if not line.startswith(f"{REFUSED_BY}:"))
@@ -35,6 +36,8 @@ class Edit:
                 self.seen_by = rest.strip()
             elif word == REFUSED_BY:
                 self.refused_by = rest.strip()
+            elif word == "checks":
+                self.checks.append(rest.strip())
             elif word == "file":
                 file = rest.strip()
             elif word == "old":
@@ -65,6 +68,11 @@ class Edit:
             places.append((file, text[: text.index(old)].count("\n")))
             made[file] = text.replace(old, new)
         return made, places
+
+
+def listed(folder):
+    """The edits of a folder, by file."""
+    return sorted(it for it in os.listdir(folder) if it.endswith(".edit")) if os.path.isdir(folder) else []
 
 
 def sources():
