@@ -23,29 +23,22 @@ use crate::laws;
 use crate::setup::Setup;
 use crate::world::World;
 use std::alloc::Global;
-use std::error::Error;
 use std::fmt;
+use thiserror::Error;
 
 /// Why a run did not reach the end of its events.
-#[derive(Drop)]
+#[derive(Drop, Error)]
 pub enum RunError {
     /// No world was made.
+    #[error("{0}")]
     Setup(SetupError),
     /// The event at this place, counted from 0, was refused for this cause. The world is that of the events before it.
+    #[error("{cause}")]
     Event {
         at: usize,
         world: World,
         cause: StepError,
     },
-}
-
-impl fmt::Display for RunError {
-    fn fmt<W: fmt::Write>(&self, f: &mut fmt::Formatter<W>) -> fmt::Result {
-        match self {
-            RunError::Setup(error) => fmt::Display::fmt(error, f),
-            RunError::Event { cause, .. } => fmt::Display::fmt(cause, f),
-        }
-    }
 }
 
 impl fmt::Debug for RunError {
@@ -60,8 +53,6 @@ impl fmt::Debug for RunError {
         }
     }
 }
-
-impl Error for RunError {}
 
 /// Makes a world, and all events in it, in their order, up to the first one that is refused.
 ///
