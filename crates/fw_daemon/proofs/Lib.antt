@@ -3,3 +3,4 @@ mod Replying
 mod Hushing
 mod Steps
 mod Rounds
+mod Watching

@@ -1,5 +1,5 @@
 -- Public vocabulary: one round of a daemon, with what its meter switched to in it.
-use Rattle.std.specs.Prelude.{◌≡◌, ◌⊎◌, ℕ, List, ◌∷◌, Option, Some, None}
+use Rattle.std.specs.Prelude.{◌≡◌, ◌⊎◌, ℕ, List, [], ◌∷◌, ◌++◌, Option, Some, None}
 use Rattle.std.specs.declared.net.socket_addr.SocketAddr.{SocketAddr}
 use Rattle.fw_names.specs.Name.{Name}
 use Rattle.fw_meter.specs.Handling.{reply_bytes}
@@ -47,3 +47,44 @@ pub record IsExchange (old : Daemon) (before after : List Act) (activated : Opti
 abbrev pub IsRound : Daemon → List Act → List Act → Option Name → Daemon → Type 0
 IsRound old before after activated new =
     ((after ≡ quiet ∷ before) × (activated ≡ None) × TakesTurn old new) ⊎ IsExchange old before after activated new
+
+-- ---- whatever is known of the port
+
+-- a datagram came and was heard
+pub record IsHearing (old : Daemon) (activated : Option Name) (new : Daemon) : Type 0 where
+  pub from : SocketAddr
+  pub datagram : List ℕ
+  pub what : Heard
+  pub middle : Daemon
+  pub hears : Hears old from datagram what middle
+  pub activates : activated ≡ activated_by what
+  pub goes_on : GoesOnAfter what middle new
+
+-- From old, a daemon makes one round and goes on to new: it took a turn, or a datagram came.
+abbrev pub GoesRound : Daemon → Option Name → Daemon → Type 0
+GoesRound old activated new = ((activated ≡ None) × TakesTurn old new) ⊎ IsHearing old activated new
+
+-- it made these rounds, the newest first, each with what its meter switched to in it
+abbrev pub GoesRounds : Daemon → List (Option Name) → Daemon → Type 0
+GoesRounds start [] now = now ≡ start
+GoesRounds start (activated ∷ rounds) now = (before : Daemon) × GoesRounds start rounds before × GoesRound before activated now
+
+-- the name of the image, where there is one
+abbrev pub named : Option Name → List Name
+named None = []
+named (Some name) = name ∷ []
+
+-- the names of the images that the meter switched to, the oldest first
+abbrev pub switches_in : List (Option Name) → List Name
+switches_in [] = []
+switches_in (activated ∷ rounds) = switches_in rounds ++ named activated
+
+-- who watches was told of these switches meanwhile, the oldest first
+abbrev pub TellsSwitches : {W : Type 0} → (W → List Name → W → Type 0) → List Name → W → W → Type 0
+TellsSwitches {W} tells switches old new = (start : W) (before : List Name) → tells start before old → tells start (before ++ switches) new
+
+-- a daemon made rounds, and who watches it was told of just the switches in them
+pub record IsWatched {W : Type 0} (tells : W → List Name → W → Type 0) (start : Daemon) (old : W) (now : Daemon) (new : W) : Type 0 where
+  pub rounds : List (Option Name)
+  pub made : GoesRounds start rounds now
+  pub told : TellsSwitches tells (switches_in rounds) old new

@@ -1,9 +1,10 @@
 //! The loop of a meter's daemon over a port. A port asks at each send whether it may be, so a loop that never ends is held to it too.
 
-ghost use Rattle.std.specs.Prelude.{◌≡◌, ◌++◌, IfOk, IsTrue, List, OnErr};
+ghost use Rattle.std.specs.Prelude.{◌≡◌, ◌++◌, IfOk, IsTrue, List, OnErr, ⊤};
+ghost use Rattle.fw_names.specs.Name.{Name};
 ghost use Rattle.fw_daemon.specs.Acts.{Act};
 ghost use Rattle.fw_daemon.specs.Daemon.{Daemon, daemon_of};
-ghost use Rattle.fw_daemon.specs.Rounds.{IsRound};
+ghost use Rattle.fw_daemon.specs.Rounds.{GoesRound, IsRound, IsWatched, named};
 ghost use Rattle.fw_daemon.specs.Serving.{Serving, Serves};
 
 use crate::daemon::{Dropped, Heard, MeterDaemon};
@@ -16,9 +17,13 @@ use std::sync::Wait;
 
 /// What looks at a daemon while it serves.
 pub trait Watch {
+    /// From one moment to another it was told of switches to the images of these names, the oldest first, and this came of them.
+    ghost tells: { Self → List Name → Self → Type 0 } = { λ _ _ _. ⊤ };
+
     /// It is called after each round, with the name of the image that the meter switched to in it, where it did, with how many
     /// datagrams were dropped so far, and with how often the port failed.
-    fn round(&mut self, activated: Option<ImageName>, dropped: Dropped, faults: u64);
+    fn round(&mut self, activated: Option<ImageName>, dropped: Dropped, faults: u64)
+        ensures tells { (start : Self) (names : List Name) → tells start names self.old → tells start (names ++ named activated) self.new };
 }
 
 /// One round: what comes is handled and replied to. Where nothing came, or a stranger's datagram did, the meter takes a turn. While an
@@ -39,6 +44,7 @@ pub fn step<P: Port<NoReport>, S: ImageStore + Drop>(
         → Serves (daemon_of daemon.old) (P.acts port.old) (P.acts port.new) (daemon_of daemon.new) }
     ensures round { IsTrue (P.honest port.old) → IfOk result (λ activated. IsRound (daemon_of daemon.old)
         (P.acts port.old) (P.acts port.new) activated (daemon_of daemon.new)) }
+    ensures goes { IfOk result (λ activated. GoesRound (daemon_of daemon.old) activated (daemon_of daemon.new)) }
     ensures closed { OnErr result (daemon_of daemon.new ≡ daemon_of daemon.old) }
     ensures honesty { P.honest port.new ≡ P.honest port.old }
     ensures law { (done : List Act) → P.legal port.old done → P.legal port.new done }
@@ -85,6 +91,9 @@ pub fn serve<R: Wait, P: Port<NoReport>, S: ImageStore + Drop, W: Watch>(
         → P.legal port.old (done ++ P.acts port.old) }
     ensures serves { IsTrue (P.honest port.old)
         → Serves (daemon_of daemon.old) (P.acts port.old) (P.acts port.new) (daemon_of daemon.new) }
+
+    // Who watches is told of each switch, once and in order, and of no other.
+    ensures watched { IsWatched W.tells (daemon_of daemon.old) watch.old (daemon_of daemon.new) watch.new }
     ensures honesty { P.honest port.new ≡ P.honest port.old }
 {
     for _ in rt.forever() {

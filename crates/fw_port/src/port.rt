@@ -13,6 +13,7 @@ ghost use Rattle.std.specs.Prelude.{
   OnErr,
   length,
   take,
+  ⊤,
 };
 ghost use Rattle.fw_port.specs.Acts.{Act, came, quiet, sent};
 
@@ -72,6 +73,10 @@ pub trait Port<Report> {
     /// What may have been done once a datagram was sent or a report made.
     ghost legal: { Self → List (Act Report) → Type 0 };
 
+    /// From one moment to another these reports were made, the oldest first, and this came of them. It is known of a port that isn't honest
+    /// too. Where none is made, there is nothing to be said.
+    ghost tells: { Self → List Report → Self → Type 0 } = { λ _ _ _. ⊤ };
+
     /// Receives the next datagram into the buffer, cut to its length. `None` says that none came in time.
     ///
     /// # Errors
@@ -83,7 +88,8 @@ pub trait Port<Report> {
             (λ a. acts self.new ≡ came a.from (take a.count buffer.new) ∷ acts self.old)) }
         ensures closed { IsTrue (honest self.old) → OnErr result (acts self.new ≡ acts self.old) }
         ensures honesty { honest self.new ≡ honest self.old }
-        ensures law { (done : List (Act Report)) → legal self.old done → legal self.new done };
+        ensures law { (done : List (Act Report)) → legal self.old done → legal self.new done }
+        ensures untold { (start : Self) (reports : List Report) → tells start reports self.old → tells start reports self.new };
 
     /// How often the port failed so far, up to 2^64 - 1: an honest one never does.
     fn faults(&self) -> u64
@@ -94,5 +100,6 @@ pub trait Port<Report> {
         requires { IsTrue (honest self.old) → legal self.old (sent to bytes.now ∷ acts self.old) }
         ensures sent { IsTrue (honest self.old) → acts self.new ≡ sent to bytes.now ∷ acts self.old }
         ensures honesty { honest self.new ≡ honest self.old }
-        ensures law { (done : List (Act Report)) → legal self.old done → legal self.new done };
+        ensures law { (done : List (Act Report)) → legal self.old done → legal self.new done }
+        ensures untold { (start : Self) (reports : List Report) → tells start reports self.old → tells start reports self.new };
 }

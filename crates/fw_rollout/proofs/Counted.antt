@@ -7,7 +7,7 @@ use Rattle.fw_ledger.specs.declared.record.Ending.TheVariants as ends
 use Rattle.std.specs.declared.net.socket_addr.SocketAddr.{SocketAddr}
 use Rattle.fw_port.specs.Acts.{sent, told}
 use Rattle.fw_rollout.specs.Acts.{Act}
-use Rattle.fw_rollout.specs.Counting.{CountsJust, CountsRows, CountsTold, IsMore, done_of, failed_of, greatest, is_done_end, is_failed_end, one_more, told_in, with_heard, with_row}
+use Rattle.fw_rollout.specs.Counting.{CountsJust, CountsRows, CountsTold, IsMore, TellsCounted, TellsRows, done_of, failed_of, greatest, is_done_end, is_failed_end, one_more, told_in, with_heard, with_row}
 use Rattle.fw_rollout.specs.declared.daemon.Counts.{Counts}
 use Rattle.fw_rollout.specs.declared.daemon.Heard.{Heard}
 use Rattle.fw_rollout.specs.declared.daemon.Heard.TheVariants as returned
@@ -162,3 +162,50 @@ tells_next acts start later row left others saved is was next =
 
 pub tells_all : (acts start : List Act) (left saved : List Ended) → left ≡ [] → told_in acts ++ left ≡ told_in start ++ saved → told_in acts ≡ told_in start ++ saved
 tells_all acts start left saved none was = sym (append-nil (told_in acts)) ∙ ap (λ (l : List Ended). told_in acts ++ l) (sym none) ∙ was
+
+-- ---- what is counted and what any port was told
+
+module _ {P : Type 0} (tells : P → List Ended → P → Type 0) where
+  -- nothing was done
+  pub rows_none : (old : P) → TellsRows tells [] old old
+  rows_none old = λ start before was. subst (λ (l : List Ended). tells start l old) (sym (append-nil before)) was
+
+  -- it was told nothing
+  pub rows_kept : (old new : P) → ((start : P) (before : List Ended) → tells start before old → tells start before new) → TellsRows tells [] old new
+  rows_kept old new kept = λ start before was. subst (λ (l : List Ended). tells start l new) (sym (append-nil before)) (kept start before was)
+
+  pub rows_then : (first second : List Ended) (old middle new : P) → TellsRows tells first old middle → TellsRows tells second middle new
+      → TellsRows tells (first ++ second) old new
+  rows_then first second old middle new one two = λ start before was.
+      subst (λ (l : List Ended). tells start l new) (append_assoc before first second) (two start (before ++ first) (one start before was))
+
+  -- it was told the next row
+  pub rows_next : (rows : List Ended) (i : ℕ) (row : Ended) (old middle new : P) → i < length rows → row ≡ get_or rows i row
+      → TellsRows tells (take i rows) old middle → TellsRows tells (row ∷ []) middle new → TellsRows tells (take (i + 1) rows) old new
+  rows_next rows i row old middle new within at one two =
+      subst (λ (l : List Ended). TellsRows tells l old new) (ap (λ (r : Ended). take i rows ++ r ∷ []) at ∙ sym (take_more rows i row within))
+      (rows_then (take i rows) (row ∷ []) old middle new one two)
+
+  pub counted_on : (old middle new : P) (a b c : Counts) → TellsCounted tells old middle a b → TellsCounted tells middle new b c → TellsCounted tells old new a c
+  counted_on old middle new a b c first second = record {
+    rows = first.rows ++ second.rows;
+    told = rows_then first.rows second.rows old middle new first.told second.told;
+    counts = rows_on first.rows second.rows a b c first.counts second.counts;
+  }
+
+  -- no row is counted
+  counted_none : (old new : P) (a b : Counts) → TellsRows tells [] old new → b.done ≡ a.done → b.failed ≡ a.failed → TellsCounted tells old new a b
+  counted_none old new a b kept done failed = record { rows = []; told = kept; counts = record { done = inr (refl, done); failed = inr (refl, failed) } }
+
+  pub counted_same : (old new : P) (a b : Counts) → TellsRows tells [] old new → b ≡ a → TellsCounted tells old new a b
+  counted_same old new a b kept is = counted_none old new a b kept (ap (λ (c : Counts). c.done) is) (ap (λ (c : Counts). c.failed) is)
+
+  pub counted_sent : (old new : P) (a b : Counts) (n : ℕ) → TellsRows tells [] old new → b ≡ record a { sent = n } → TellsCounted tells old new a b
+  counted_sent old new a b n kept is = counted_none old new a b kept (ap (λ (c : Counts). c.done) is) (ap (λ (c : Counts). c.failed) is)
+
+  pub counted_received : (old new : P) (a b : Counts) (n : ℕ) → TellsRows tells [] old new → b ≡ record a { received = n } → TellsCounted tells old new a b
+  counted_received old new a b n kept is = counted_none old new a b kept (ap (λ (c : Counts). c.done) is) (ap (λ (c : Counts). c.failed) is)
+
+  pub counted_heard : (old new : P) (what : Heard) (a b : Counts) → TellsRows tells [] old new → b ≡ with_heard what a → TellsCounted tells old new a b
+  counted_heard old new what a b kept is =
+      counted_none old new a b kept (ap (λ (c : Counts). c.done) is ∙ heard_done what a) (ap (λ (c : Counts). c.failed) is ∙ heard_failed what a)

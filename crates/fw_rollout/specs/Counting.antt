@@ -78,3 +78,13 @@ pub record CountsTold (before after : List Act) (old new : Counts) : Type 0 wher
   pub rows : List Ended
   pub adds : told_in after ≡ told_in before ++ rows
   pub counts : CountsRows rows old new
+
+-- these rows were reported meanwhile, the oldest first, whatever else is known of the port
+abbrev pub TellsRows : {P : Type 0} → (P → List Ended → P → Type 0) → List Ended → P → P → Type 0
+TellsRows {P} tells rows old new = (start : P) (before : List Ended) → tells start before old → tells start (before ++ rows) new
+
+-- and they are what was counted as done and as given up
+pub record TellsCounted {P : Type 0} (tells : P → List Ended → P → Type 0) (old new : P) (before after : Counts) : Type 0 where
+  pub rows : List Ended
+  pub told : TellsRows tells rows old new
+  pub counts : CountsRows rows before after

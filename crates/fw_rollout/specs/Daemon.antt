@@ -12,13 +12,14 @@ use Rattle.fw_rollout.specs.declared.daemon.Heard.TheVariants as returned
 use Rattle.fw_rollout.specs.declared.ended.Ended.{Ended}
 use Rattle.fw_rollout.specs.declared.link.Listed.{Listed}
 use Rattle.fw_rollout.specs.declared.link.Link.{Link}
+use Rattle.fw_rollout.specs.declared.timing.Timing.{Timing}
 use Rattle.fw_rollout.specs.declared.link.Turn.TheVariants as turns
 use Rattle.std.specs.declared.net.socket_addr.SocketAddr.{SocketAddr}
 use Rattle.fw_port.specs.declared.port.Port
 use Rattle.fw_rollout.specs.Acts.{Act}
 use Rattle.fw_rollout.specs.declared.link.Answer.{Answer}
 use Rattle.fw_rollout.specs.Early.{IsAnswerOf}
-use Rattle.fw_rollout.specs.Counting.{CountsTold, counted_of}
+use Rattle.fw_rollout.specs.Counting.{CountsTold, TellsCounted, counted_of}
 use Rattle.fw_rollout.specs.Leading.{HasLed, IsNotedIn, Leader, Leads, MayLead}
 use Rattle.fw_rollout.specs.Link.{IsReadyBy, after, out_by}
 use Rattle.fw_rollout.specs.Schedule.{Answers, IsDueAt, IsSchedule, links_of, listed_of, lives_of, resent_in}
@@ -44,6 +45,10 @@ out_of daemon = daemon.schedule.out
 -- how many may be
 abbrev pub flight_of : {D : Type 0} → HeadDaemon D → ℕ
 flight_of daemon = daemon.schedule.timing.flight
+
+-- how it waits for answers, and how many datagrams may be out
+abbrev pub timing_of : {D : Type 0} → HeadDaemon D → Timing
+timing_of daemon = daemon.schedule.timing
 
 -- the places in the list of the meters that may be asked now, the next one first. The rows of some may have ended meanwhile.
 abbrev pub queue_of : {D : Type 0} → HeadDaemon D → List ℕ
@@ -113,6 +118,11 @@ since_of daemon = daemon.held_since
 -- how far the head end is
 abbrev pub counts_of : {D : Type 0} → HeadDaemon D → Counts
 counts_of daemon = record daemon.counts { live = daemon.schedule.live; resends = daemon.schedule.resends }
+
+-- no link is live, and nothing that ended waits to be put on the device
+pub record HasRunOut {D : Type 0} (daemon : HeadDaemon D) : Type 0 where
+  pub live : (counts_of daemon).live ≡ 0
+  pub ended : ended_of daemon ≡ []
 
 -- which of these meters have a live row
 abbrev pub live_of : Head → List Listed → List Bool
@@ -190,5 +200,7 @@ pub record LeadsOver {P D T E : Type 0} (N : Port.Ghosts P Ended) (J : JournalDe
   pub leads_err : IsTrue (N.honest old) → (start : Leader) → IsLed J.honest J.contents J.may_leave before start → Rests start → OnErr result (HasLed start (N.acts old) (N.acts new))
   -- what it counted as done and as given up is what was reported
   pub counts : IsTrue (N.honest old) → CountsTold (N.acts old) (N.acts new) (counted_of before) (counted_of after)
+  -- and so it is of any port
+  pub tells : TellsCounted N.tells old new (counted_of before) (counted_of after)
   pub honesty : N.honest new ≡ N.honest old
   pub law : (done : List Act) → N.legal old done → N.legal new done

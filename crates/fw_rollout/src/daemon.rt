@@ -47,6 +47,7 @@ ghost use Rattle.fw_rollout.specs.Counting.{
 };
 ghost use Rattle.fw_rollout.specs.Leading.{HasLiveRow, HearsAs, IsAboutToSend, IsAboutToTell, IsListed, Leader, SavesAll, TicksMeter};
 ghost use Rattle.fw_rollout.specs.Daemon.{
+  HasRunOut,
   IsAskedBy,
   IsDueBy,
   IsDueNow,
@@ -71,6 +72,7 @@ ghost use Rattle.fw_rollout.specs.Daemon.{
   since_after,
   since_of,
   since_with,
+  timing_of,
 };
 ghost use Rattle.fw_rollout.specs.Schedule.{EndsMeter, IsSchedule, listed_of, lives_of, times};
 
@@ -176,6 +178,7 @@ impl<D: JournalDevice + Drop> HeadDaemon<D> {
     ) -> Result<HeadDaemon<D>, Stop>
         ensures kept { IfOk result (λ daemon. kept_of daemon ≡ kept) }
         ensures meters { IfOk result (λ daemon. meters_of daemon ≡ meters.now) }
+        ensures timing { IfOk result (λ daemon. timing_of daemon ≡ timing) }
         ensures counts { IfOk result (λ daemon. counted_of daemon ≡ none_counted) }
         ensures led { (synced : Contents) → Holds D.honest D.contents D.may_leave kept synced
             → IfOk result (λ daemon. IsLed D.honest D.contents D.may_leave daemon (new_leader meters.now (head_of kept) synced)) }
@@ -414,7 +417,10 @@ impl<D: JournalDevice + Drop> HeadDaemon<D> {
 
     /// Whether no row is live, and all that ended is on the device.
     pub fn is_over(&self) -> bool
-        ensures { (leader : Leader) → IsLed D.honest D.contents D.may_leave self.now leader → IsTrue result ↔ IsOver leader }
+        ensures over { (leader : Leader) → IsLed D.honest D.contents D.may_leave self.now leader → IsTrue result ↔ IsOver leader }
+
+        // Whatever is known of the device.
+        ensures ran_out { IsTrue result ↔ HasRunOut self.now }
     {
         self.schedule.live() == 0 && self.ended.is_empty()
     }
@@ -448,6 +454,7 @@ fn schedule_of(
 ) -> Result<Schedule, AllocError>
     requires { IsList meters.now }
     ensures listed { IfOk result (λ schedule. listed_of schedule ≡ meters.now) }
+    ensures timing { IfOk result (λ schedule. schedule.timing ≡ timing) }
     ensures lives { IfOk result (λ schedule. lives_of schedule ≡ live_of head.now meters.now) }
     ensures schedule { IfOk result IsSchedule }
 {

@@ -1,8 +1,9 @@
 //! Ports of head ends: where their datagrams come from and go to, and where it is reported which rows ended.
 
-ghost use Rattle.std.specs.Prelude.{◌≡◌, ◌∷◌, ℕ, List, IsTrue};
+ghost use Rattle.std.specs.Prelude.{◌≡◌, ◌∷◌, ◌++◌, ℕ, [], List, IsTrue};
 ghost use Rattle.fw_port.specs.Acts.{told};
 ghost use Rattle.fw_rollout.specs.Acts.{Act};
+ghost use Rattle.fw_rollout.specs.declared.ended.Ended.{Ended};
 
 use crate::ended::Ended;
 use fw_port::Port;
@@ -21,5 +22,6 @@ pub trait HeadPort: Port<Ended> {
         requires { IsTrue (Self.honest self.old) → Self.legal self.old (told ended ∷ Self.acts self.old) }
         ensures told { IsTrue (Self.honest self.old) → Self.acts self.new ≡ told ended ∷ Self.acts self.old }
         ensures honesty { Self.honest self.new ≡ Self.honest self.old }
-        ensures law { (done : List Act) → Self.legal self.old done → Self.legal self.new done };
+        ensures law { (done : List Act) → Self.legal self.old done → Self.legal self.new done }
+        ensures tells { (start : Self) (rows : List Ended) → Self.tells start rows self.old → Self.tells start (rows ++ ended ∷ []) self.new };
 }

@@ -4,9 +4,9 @@
 ghost use Rattle.std.specs.Prelude.{◌≡◌, ◌++◌, [], List, IsTrue, OnOk, false};
 ghost use Rattle.fw_head.specs.Row.{bytes_of};
 ghost use Rattle.fw_rollout.specs.Acts.{Act};
-ghost use Rattle.fw_rollout.specs.Counting.{told_in};
+ghost use Rattle.fw_rollout.specs.Counting.{TellsRows, told_in};
 ghost use Rattle.fw_rollout.specs.Leading.{IsAboutToSend, IsAboutToTell, Leader, Leads, MayLead};
-ghost use Rattle.fw_rollout.specs.Daemon.{IsLed, IsOver, LeadsOver, MayLeadOver, NoneDue};
+ghost use Rattle.fw_rollout.specs.Daemon.{HasRunOut, IsLed, IsOver, LeadsOver, MayLeadOver, NoneDue};
 
 use crate::daemon::{Counts, HeadDaemon};
 use crate::ended::Ended;
@@ -94,6 +94,7 @@ fn send_all<P: HeadPort>(port: &mut P, to: SocketAddr, datagrams: &[Vec<u8>])
     ensures told { IsTrue (P.honest port.old) → told_in (P.acts port.new) ≡ told_in (P.acts port.old) }
     ensures honesty { P.honest port.new ≡ P.honest port.old }
     ensures law { (done : List Act) → P.legal port.old done → P.legal port.new done }
+    ensures untold { TellsRows P.tells [] port.old port.new }
 {
     for datagram in datagrams {
         port.send(to, datagram);
@@ -152,6 +153,7 @@ fn tell_all<P: HeadPort>(port: &mut P, saved: &[Ended])
     ensures told { IsTrue (P.honest port.old) → told_in (P.acts port.new) ≡ told_in (P.acts port.old) ++ saved.now }
     ensures honesty { P.honest port.new ≡ P.honest port.old }
     ensures law { (done : List Act) → P.legal port.old done → P.legal port.new done }
+    ensures rows { TellsRows P.tells saved.now port.old port.new }
 {
     for ended in saved {
         port.tell(*ended);
@@ -176,6 +178,9 @@ pub fn serve_head<R: Wait, P: HeadPort, D: JournalDevice + Drop, W: HeadWatch>(
     // It returns by itself only once no row is live and all that ended is on the device, and never where it stays.
     ensures over { (now : Leader) → IsLed D.honest D.contents D.may_leave daemon.new now → OnOk result (IsOver now) }
     ensures stays { OnOk result (stays ≡ false) }
+
+    // Whatever is known of the device: no link is live, and nothing waits to be put on it.
+    ensures ran_out { OnOk result (HasRunOut daemon.new) }
 {
     let mut now = port.now();
     let mut buffer = [0u8; MAX_RECEIVED];

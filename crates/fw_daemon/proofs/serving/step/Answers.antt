@@ -6,6 +6,7 @@ use Rattle.fw_daemon.specs.Daemon.{daemon_of}
 use Rattle.fw_daemon.proofs.Rounds.{replied, silent}
 use Rattle.fw_daemon.specs.declared.daemon.Heard.TheVariants as heard
 use Rattle.fw_daemon.proofs.Steps.{quiet_round, strange_round, unserved_round, silent_round, replied_round, replies}
+use Rattle.fw_daemon.proofs.Watching.{handled}
 use Rattle.fw_daemon.proofs.serving.step.Goals as goal
 
 pub returns-in_default-clause-serves : goal.returns-in_default-clause-serves
@@ -91,3 +92,34 @@ returns-in-OutOfMemory-clause-round g c = λ honest.
       activates = refl;
       goes_on = refl;
     })
+
+pub returns-in_default-clause-goes : goal.returns-in_default-clause-goes
+returns-in_default-clause-goes g c = inl (refl, c.turn.ensures)
+
+pub returns-in-Some-reply-clause-goes : goal.returns-in-Some-reply-clause-goes
+returns-in-Some-reply-clause-goes g c = handled _ _ _ _ _ c.in-Handled.ensures
+
+pub returns-in-None-clause-goes : goal.returns-in-None-clause-goes
+returns-in-None-clause-goes g c = handled _ _ _ _ _ c.in-Handled.ensures
+
+pub returns-in-Stranger-clause-goes : goal.returns-in-Stranger-clause-goes
+returns-in-Stranger-clause-goes g c = inr (record {
+  from = c.in-Some.arrival.from;
+  datagram = take c.in-Some.arrival.count c.receive.new.buffer;
+  what = heard.Stranger;
+  middle = daemon_of c.heard.new.self;
+  hears = c.in-Stranger.ensures;
+  activates = refl;
+  goes_on = c.turn-in-Stranger.ensures;
+})
+
+pub returns-in-OutOfMemory-clause-goes : goal.returns-in-OutOfMemory-clause-goes
+returns-in-OutOfMemory-clause-goes g c = inr (record {
+  from = c.in-Some.arrival.from;
+  datagram = take c.in-Some.arrival.count c.receive.new.buffer;
+  what = heard.OutOfMemory;
+  middle = daemon_of c.heard.new.self;
+  hears = c.in-OutOfMemory.ensures;
+  activates = refl;
+  goes_on = refl;
+})

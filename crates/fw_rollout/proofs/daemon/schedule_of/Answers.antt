@@ -29,6 +29,7 @@ loop-at-preserved c =
           ∙ ap (λ (xs : List Listed). xs ++ at ∷ []) c.loop-at.invariant.listed
           ∙ ap (λ (x : Listed). so_far ++ x ∷ []) c.at-item.is
           ∙ sym (take_more meters k at inside);
+      timing = c.in_ok-add.ensures.timing ∙ c.loop-at.invariant.timing;
       lives =
           c.in_ok-add.ensures.lives
           ∙ ap (λ (bs : List Bool). bs ++ c.has_row.result ∷ []) c.loop-at.invariant.lives

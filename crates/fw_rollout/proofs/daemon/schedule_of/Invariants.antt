@@ -7,6 +7,7 @@ use Rattle.fw_rollout.proofs.daemon.schedule_of.Given as goal
 abbrev pub invariant-loop-at : goal.invariant-loop-at
 invariant-loop-at l = record {
   listed : listed_of l.schedule ≡ take l.at-index l.meters;
+  timing : l.schedule.timing ≡ l.fn.timing;
   lives : lives_of l.schedule ≡ live_of l.head (take l.at-index l.meters);
   schedule : IsSchedule l.schedule;
 }

@@ -2,7 +2,7 @@ use Rattle.std.proofs.Common.{rules, ◌≡◌, ◌∷◌, Bool, IsTrue, List, t
 use Rattle.fw_port.specs.Acts.{came, quiet}
 use Rattle.fw_rollout.specs.Acts.{Act}
 use Rattle.fw_rollout.specs.Counting.{told_in}
-use Rattle.fw_rollout.proofs.Counted.{told_heard, told_received, told_same}
+use Rattle.fw_rollout.proofs.Counted.{counted_heard, counted_received, counted_same, rows_kept, told_heard, told_received, told_same}
 use Rattle.fw_rollout.proofs.Rounds.{at_err, has_led_same, heard, idled, step_of, unheard}
 use Rattle.fw_rollout.proofs.serving.receive.Goals as goal
 
@@ -11,6 +11,7 @@ returns-in_err-arrival-clause-leads g c = record {
   leads = λ honest start led rests. search rules;
   leads_err = λ honest start led rests. at_err c.from_residual.result (has_led_same start _ _ (c.in_err-arrival.ensures.closed honest));
   counts = λ honest. told_same _ _ _ _ (ap (λ (acts : List Act). told_in acts) (c.in_err-arrival.ensures.closed honest)) refl;
+  tells = counted_same g.P.Port.tells _ _ _ _ (rows_kept g.P.Port.tells _ _ c.receive.ensures.untold) refl;
   honesty = c.receive.ensures.honesty;
   law = c.receive.ensures.law;
 }
@@ -24,6 +25,7 @@ returns-in_default-clause-leads g c = record {
   counts = λ honest.
       let is : g.P.Port.acts c.receive.new.self ≡ quiet ∷ g.P.Port.acts c.args.port.now = search rules in
       told_same _ _ _ _ (ap (λ (acts : List Act). told_in acts) is) refl;
+  tells = counted_same g.P.Port.tells _ _ _ _ (rows_kept g.P.Port.tells _ _ c.receive.ensures.untold) refl;
   honesty = c.receive.ensures.honesty;
   law = c.receive.ensures.law;
 }
@@ -37,6 +39,7 @@ returns-in_err-heard-clause-leads g c = record {
   counts = λ honest.
       let is : g.P.Port.acts c.receive.new.self ≡ came c.in-Some.arrival.from (take c.in-Some.arrival.count c.receive.new.buffer) ∷ g.P.Port.acts c.args.port.now = search rules in
       told_received _ _ _ _ _ (ap (λ (acts : List Act). told_in acts) is) c.in_err-heard.ensures.counts_err;
+  tells = counted_received g.P.Port.tells _ _ _ _ _ (rows_kept g.P.Port.tells _ _ c.receive.ensures.untold) c.in_err-heard.ensures.counts_err;
   honesty = c.receive.ensures.honesty;
   law = c.receive.ensures.law;
 }
@@ -51,6 +54,7 @@ returns-clause-leads g c = record {
   counts = λ honest.
       let is : g.P.Port.acts c.receive.new.self ≡ came c.in-Some.arrival.from (take c.in-Some.arrival.count c.receive.new.buffer) ∷ g.P.Port.acts c.args.port.now = search rules in
       told_heard _ _ _ _ _ (ap (λ (acts : List Act). told_in acts) is) c.in_ok-heard.ensures.counts;
+  tells = counted_heard g.P.Port.tells _ _ _ _ _ (rows_kept g.P.Port.tells _ _ c.receive.ensures.untold) c.in_ok-heard.ensures.counts;
   honesty = c.receive.ensures.honesty;
   law = c.receive.ensures.law;
 }

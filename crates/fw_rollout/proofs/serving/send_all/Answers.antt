@@ -5,7 +5,7 @@ use Rattle.std.specs.Global.{Vec}
 use Rattle.fw_head.specs.Head.{IsOfferedIn}
 use Rattle.fw_head.specs.Row.{bytes_of}
 use Rattle.fw_rollout.specs.Leading.{Leads}
-use Rattle.fw_rollout.proofs.Counted.{sends_next}
+use Rattle.fw_rollout.proofs.Counted.{rows_kept, rows_then, sends_next}
 use Rattle.fw_rollout.proofs.Steps.{may_send, sending, sends_on}
 use Rattle.fw_rollout.proofs.serving.send_all.Goals as goal
 
@@ -44,6 +44,7 @@ loop-datagram-preserved g c =
           let is = subst (λ (b : Bool). IsTrue b) (sym c.loop-datagram.invariant.1) honest in
           sends_next c.args.to c.deref.result.now (g.P.Port.acts c.loop-datagram.port) (g.P.Port.acts c.args.port.now) (g.P.Port.acts c.send.new.self) (c.send.ensures.sent is)
           (c.loop-datagram.invariant.3 honest),
+      rows_then g.P.Port.tells [] [] _ _ _ c.loop-datagram.invariant.4 (rows_kept g.P.Port.tells _ _ c.send.ensures.untold),
     )
 
 pub returns-clause-told : goal.returns-clause-told
@@ -56,3 +57,6 @@ returns-clause-sends g c = λ honest start about.
     let none : drop c.loop-datagram.datagram-index all ≡ [] = drop_all c.loop-datagram.datagram-index all (omega (arith, length-map c.args.datagrams.now items)) in
     subst (λ (l : List (List ℕ)). Leads start (g.P.Port.acts c.args.port.now) (g.P.Port.acts c.loop-datagram.port) (sending start c.args.to l)) none
     (c.loop-datagram.invariant.0 honest start about)
+
+pub returns-clause-untold : goal.returns-clause-untold
+returns-clause-untold g c = c.loop-datagram.invariant.4

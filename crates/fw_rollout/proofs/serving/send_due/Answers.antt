@@ -1,5 +1,5 @@
 use Rattle.std.proofs.Common.{rules, Bool, IsTrue, refl, sym, subst, ◌∙◌}
-use Rattle.fw_rollout.proofs.Counted.{told_on, told_same, told_sent}
+use Rattle.fw_rollout.proofs.Counted.{counted_on, counted_same, counted_sent, rows_none, told_on, told_same, told_sent}
 use Rattle.fw_rollout.proofs.Steps.{may_tick}
 use Rattle.fw_rollout.proofs.Rounds.{at_err, begins_on, follows_none, joined, ticked}
 use Rattle.fw_rollout.proofs.serving.send_due.Goals as goal
@@ -12,6 +12,7 @@ returns-in_err-due g c = record {
         let one = c.loop.invariant.0 honest start led rests in
         at_err c.from_residual.result (one.now, one.leads);
     counts = λ honest. told_on _ _ _ _ _ _ (c.loop.invariant.3 honest) (told_same _ _ _ _ refl c.in_err-due.ensures.counts_err);
+    tells = counted_on g.P.Port.tells _ _ _ _ _ _ c.loop.invariant.4 (counted_same g.P.Port.tells _ _ _ _ (rows_none g.P.Port.tells _) c.in_err-due.ensures.counts_err);
     honesty = c.loop.invariant.1;
     law = c.loop.invariant.2;
   };
@@ -37,6 +38,9 @@ returns-in-None g c = record {
     counts = λ honest.
         let same = rw c.in-None.is at c.in_ok-due.ensures.counts in
         told_on _ _ _ _ _ _ (c.loop.invariant.3 honest) (told_same _ _ _ _ refl same);
+    tells =
+        let same = rw c.in-None.is at c.in_ok-due.ensures.counts in
+        counted_on g.P.Port.tells _ _ _ _ _ _ c.loop.invariant.4 (counted_same g.P.Port.tells _ _ _ _ (rows_none g.P.Port.tells _) same);
     honesty = c.loop.invariant.1;
     law = c.loop.invariant.2;
   };
@@ -48,17 +52,19 @@ returns g c = record {
     leads = c.loop.invariant.0;
     leads_err = λ honest start led rests. tt;
     counts = c.loop.invariant.3;
+    tells = c.loop.invariant.4;
     honesty = c.loop.invariant.1;
     law = c.loop.invariant.2;
   };
 }
 
 pub loop-init : goal.loop-init
-loop-init g c = (λ honest. follows_none _ _ _ c.args.daemon.now _, refl, λ done legal. legal, λ honest. told_same _ _ _ _ refl refl)
+loop-init g c = (λ honest. follows_none _ _ _ c.args.daemon.now _, refl, λ done legal. legal, λ honest. told_same _ _ _ _ refl refl, counted_same g.P.Port.tells _ _ _ _ (rows_none g.P.Port.tells _) refl)
 
 pub loop-preserved : goal.loop-preserved
 loop-preserved g c =
-    let was = c.loop.invariant in (
+    let was = c.loop.invariant in
+    let sent = rw c.in-Some.is at c.in_ok-due.ensures.counts in (
       λ honest start led rests.
           let then : IsTrue (g.P.Port.honest c.loop.port) = subst (λ (b : Bool). IsTrue b) (sym was.1) honest in
           let one = was.0 honest start led rests in
@@ -69,6 +75,6 @@ loop-preserved g c =
       λ done legal. c.send_all.ensures.law done (was.2 done legal),
       λ honest.
           let then : IsTrue (g.P.Port.honest c.loop.port) = subst (λ (b : Bool). IsTrue b) (sym was.1) honest in
-          let made = rw c.in-Some.is at c.in_ok-due.ensures.counts in
-          told_on _ _ _ _ _ _ (was.3 honest) (told_sent _ _ _ _ _ (c.send_all.ensures.told then) made),
+          told_on _ _ _ _ _ _ (was.3 honest) (told_sent _ _ _ _ _ (c.send_all.ensures.told then) sent),
+      counted_on g.P.Port.tells _ _ _ _ _ _ was.4 (counted_sent g.P.Port.tells _ _ _ _ _ c.send_all.ensures.untold sent),
     )

@@ -1,5 +1,5 @@
 use Rattle.std.proofs.Common.{rules, Bool, IsTrue, refl, sym, subst, ◌∙◌}
-use Rattle.fw_rollout.proofs.Counted.{told_on, told_same}
+use Rattle.fw_rollout.proofs.Counted.{counted_on, counted_same, rows_none, told_on, told_same}
 use Rattle.fw_rollout.proofs.Rounds.{at_err, begins_on, follows_none, goes_on, has_led_on}
 use Rattle.fw_rollout.proofs.serving.serve_head.Goals as goal
 
@@ -25,10 +25,11 @@ loop-preserved g c =
       λ honest.
           let then : IsTrue (g.P.Port.honest c.loop.port) = subst (λ (b : Bool). IsTrue b) (sym was.3) honest in
           told_on _ _ _ _ _ _ (was.5 honest) (made.counts then),
+      counted_on g.P.Port.tells _ _ _ _ _ _ was.6 made.tells,
     )
 
 pub loop-init : goal.loop-init
-loop-init g c = (search rules, search rules, λ honest. follows_none _ _ _ c.args.daemon.now _, refl, λ done legal. legal, λ honest. told_same _ _ _ _ refl refl)
+loop-init g c = (search rules, search rules, λ honest. follows_none _ _ _ c.args.daemon.now _, refl, λ done legal. legal, λ honest. told_same _ _ _ _ refl refl, counted_same g.P.Port.tells _ _ _ _ (rows_none g.P.Port.tells _) refl)
 
 pub returns-in_err-step_with-clause-leads : goal.returns-in_err-step_with-clause-leads
 returns-in_err-step_with-clause-leads g c =
@@ -43,6 +44,7 @@ returns-in_err-step_with-clause-leads g c =
       counts = λ honest.
           let then : IsTrue (g.P.Port.honest c.loop.port) = subst (λ (b : Bool). IsTrue b) (sym was.3) honest in
           told_on _ _ _ _ _ _ (was.5 honest) (made.counts then);
+      tells = counted_on g.P.Port.tells _ _ _ _ _ _ was.6 made.tells;
       honesty = made.honesty ∙ was.3;
       law = λ done legal. made.law done (was.4 done legal);
     }
@@ -50,4 +52,4 @@ returns-in_err-step_with-clause-leads g c =
 pub returns-then-not-stays-clause-leads : goal.returns-then-not-stays-clause-leads
 returns-then-not-stays-clause-leads g c =
     let was = c.loop.invariant in
-    record { leads = was.2; leads_err = λ honest start led rests. tt; counts = was.5; honesty = was.3; law = was.4 }
+    record { leads = was.2; leads_err = λ honest start led rests. tt; counts = was.5; tells = was.6; honesty = was.3; law = was.4 }

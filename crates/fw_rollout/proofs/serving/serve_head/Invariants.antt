@@ -1,6 +1,6 @@
 use Rattle.std.proofs.Common.{◌≡◌, List, IsTrue}
 use Rattle.fw_rollout.specs.Acts.{Act}
-use Rattle.fw_rollout.specs.Counting.{CountsTold, counted_of}
+use Rattle.fw_rollout.specs.Counting.{CountsTold, TellsCounted, counted_of}
 use Rattle.fw_rollout.proofs.Rounds.{Follows}
 use Rattle.fw_rollout.proofs.serving.serve_head.Given as goal
 
@@ -13,3 +13,4 @@ invariant-loop g l =
     × (g.P.Port.honest l.port ≡ g.P.Port.honest l.fn.port)
     × ((done : List Act) → g.P.Port.legal l.fn.port done → g.P.Port.legal l.port done)
     × (IsTrue (g.P.Port.honest l.fn.port) → CountsTold (g.P.Port.acts l.fn.port) (g.P.Port.acts l.port) (counted_of l.fn.daemon) (counted_of l.daemon))
+    × TellsCounted g.P.Port.tells l.fn.port l.port (counted_of l.fn.daemon) (counted_of l.daemon)

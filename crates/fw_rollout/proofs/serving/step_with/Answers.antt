@@ -1,6 +1,6 @@
 use Rattle.std.proofs.Common.{rules, ◌≡◌, ℕ, Bool, IsTrue, sym, subst, ◌∙◌}
 use Rattle.std.proofs.lemmas.Result.{on_ok_weaker, on_err_weaker}
-use Rattle.fw_rollout.proofs.Counted.{told_on}
+use Rattle.fw_rollout.proofs.Counted.{counted_on, told_on}
 use Rattle.fw_rollout.specs.Daemon.{NoneDue}
 use Rattle.fw_rollout.proofs.Rounds.{at_err, begins_on, both_ok, has_led_on, joined}
 use Rattle.fw_rollout.proofs.serving.step_with.Goals as goal
@@ -35,6 +35,7 @@ returns-in_err-patience-clause-leads g c =
       leads = λ honest start led rests. search rules;
       leads_err = λ honest start led rests. at_err c.from_residual.result (first.leads_err honest start led rests);
       counts = first.counts;
+      tells = first.tells;
       honesty = first.honesty;
       law = first.law;
     }
@@ -52,6 +53,7 @@ returns-in_err-receive-clause-leads g c =
       counts = λ honest.
           let then : IsTrue (g.P.Port.honest c.send_due.new.port) = subst (λ (b : Bool). IsTrue b) (sym first.honesty) honest in
           told_on _ _ _ _ _ _ (first.counts honest) (second.counts then);
+      tells = counted_on g.P.Port.tells _ _ _ _ _ _ first.tells second.tells;
       honesty = second.honesty ∙ first.honesty;
       law = λ done legal. second.law done (first.law done legal);
     }
@@ -80,6 +82,7 @@ returns-clause-leads g c =
           let then : IsTrue (g.P.Port.honest c.send_due.new.port) = subst (λ (b : Bool). IsTrue b) (sym first.honesty) honest in
           let last : IsTrue (g.P.Port.honest c.receive.new.port) = subst (λ (b : Bool). IsTrue b) (sym second.honesty) then in
           told_on _ _ _ _ _ _ (first.counts honest) (told_on _ _ _ _ _ _ (second.counts then) (third.counts last));
+      tells = counted_on g.P.Port.tells _ _ _ _ _ _ first.tells (counted_on g.P.Port.tells _ _ _ _ _ _ second.tells third.tells);
       honesty = third.honesty ∙ (second.honesty ∙ first.honesty);
       law = λ done legal. third.law done (second.law done (first.law done legal));
     }

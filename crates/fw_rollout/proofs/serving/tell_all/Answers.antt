@@ -1,9 +1,10 @@
-use Rattle.std.proofs.Common.{◌≡◌, ◌∷◌, ◌+◌, ◌<◌, List, [], IsTrue, Bool, ℕ, length, drop, get_or, sym, subst, ap, ◌∙◌, arith}
-use Rattle.std.proofs.lemmas.List.{drop_all, drop_more}
+use Rattle.std.proofs.Common.{◌≡◌, ◌∷◌, ◌+◌, ◌<◌, List, [], IsTrue, Bool, ℕ, length, drop, take, get_or, sym, subst, ap, ◌∙◌, arith}
+use Rattle.std.proofs.lemmas.List.{drop_all, drop_more, take_all}
 use Rattle.std.proofs.lemmas.List.Elements.{All-drop}
 use Rattle.fw_rollout.specs.declared.ended.Ended.{Ended}
+use Rattle.fw_rollout.specs.Counting.{TellsRows}
 use Rattle.fw_rollout.specs.Leading.{IsNotedIn, Leads}
-use Rattle.fw_rollout.proofs.Counted.{tells_all, tells_next}
+use Rattle.fw_rollout.proofs.Counted.{rows_next, tells_all, tells_next}
 use Rattle.fw_rollout.proofs.Steps.{may_tell, telling, tells_on}
 use Rattle.fw_rollout.proofs.serving.tell_all.Goals as goal
 
@@ -38,6 +39,7 @@ loop-ended-preserved g c =
           let is = subst (λ (b : Bool). IsTrue b) (sym c.loop-ended.invariant.1) honest in
           tells_next (g.P.Port.acts c.loop-ended.port) (g.P.Port.acts c.args.port.now) (g.P.Port.acts c.tell.new.self) c.ended-item.result (drop i all) (drop (i + 1) all) all
           (c.tell.ensures.told is) (c.loop-ended.invariant.3 honest) left,
+      rows_next g.P.Port.tells all i c.ended-item.result _ _ _ (omega arith) c.ended-item.is c.loop-ended.invariant.4 c.tell.ensures.tells,
     )
 
 pub returns-clause-told : goal.returns-clause-told
@@ -51,3 +53,9 @@ returns-clause-tells g c = λ honest start about.
     let none : drop c.loop-ended.ended-index c.args.saved.now ≡ [] = drop_all c.loop-ended.ended-index c.args.saved.now (omega arith) in
     subst (λ (l : List Ended). Leads start (g.P.Port.acts c.args.port.now) (g.P.Port.acts c.loop-ended.port) (telling start l)) none
     (c.loop-ended.invariant.0 honest start about)
+
+pub returns-clause-rows : goal.returns-clause-rows
+returns-clause-rows g c =
+    let all = c.args.saved.now in
+    let whole : take c.loop-ended.ended-index all ≡ all = take_all c.loop-ended.ended-index all (omega arith) in
+    subst (λ (l : List Ended). TellsRows g.P.Port.tells l c.args.port.now c.loop-ended.port) whole c.loop-ended.invariant.4

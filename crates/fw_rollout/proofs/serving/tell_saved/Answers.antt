@@ -3,7 +3,7 @@ use Rattle.std.proofs.lemmas.Bool.{false≢true}
 use Rattle.fw_rollout.specs.declared.ended.Ended.{Ended}
 use Rattle.fw_rollout.specs.Counting.{CountsRows}
 use Rattle.fw_rollout.specs.Leading.{IsAboutToTell}
-use Rattle.fw_rollout.proofs.Counted.{told_same}
+use Rattle.fw_rollout.proofs.Counted.{counted_same, rows_none, told_same}
 use Rattle.fw_rollout.proofs.Steps.{may_save}
 use Rattle.fw_rollout.proofs.Rounds.{at_err, follows_none, has_led_same, saved}
 use Rattle.fw_rollout.proofs.serving.tell_saved.Goals as goal
@@ -22,6 +22,7 @@ returns-then-not-is_save_due-clause-leads g c = record {
   leads = λ honest. follows_none _ _ _ c.args.daemon.now _;
   leads_err = λ honest start led rests. tt;
   counts = λ honest. told_same _ _ _ _ refl refl;
+  tells = counted_same g.P.Port.tells _ _ _ _ (rows_none g.P.Port.tells _) refl;
   honesty = refl;
   law = λ done legal. legal;
 }
@@ -31,6 +32,7 @@ returns-in_err-saved-clause-leads g c = record {
   leads = λ honest start led rests. search rules;
   leads_err = λ honest start led rests. at_err c.from_residual.result (has_led_same start _ _ refl);
   counts = λ honest. told_same _ _ _ _ refl c.in_err-saved.ensures.counts_err;
+  tells = counted_same g.P.Port.tells _ _ _ _ (rows_none g.P.Port.tells _) c.in_err-saved.ensures.counts_err;
   honesty = refl;
   law = λ done legal. legal;
 }
@@ -45,6 +47,11 @@ returns-clause-leads g c = record {
   counts = λ honest. record {
     rows = c.deref.result.now;
     adds = c.tell_all.ensures.told honest;
+    counts = subst (λ (rows : List Ended). CountsRows rows c.args.daemon.now.counts c.saved.new.self.counts) (sym c.deref.ensures.value) c.in_ok-saved.ensures.counts.counts;
+  };
+  tells = record {
+    rows = c.deref.result.now;
+    told = c.tell_all.ensures.rows;
     counts = subst (λ (rows : List Ended). CountsRows rows c.args.daemon.now.counts c.saved.new.self.counts) (sym c.deref.ensures.value) c.in_ok-saved.ensures.counts.counts;
   };
   honesty = c.tell_all.ensures.honesty;
