@@ -1,2 +1,3 @@
-pub mod Rows
+pub mod Dealing
 pub mod Noted
+pub mod Rows

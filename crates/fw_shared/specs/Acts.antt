@@ -1,6 +1,6 @@
 -- Public vocabulary: what the events that workers make leave at their seats, and what head ends that they share are.
-use Rattle.std.specs.List.{flat_map}
-use Rattle.std.specs.Prelude.{◌≡◌, ◌⊎◌, ℕ, ◌+◌, ◌-◌, ◌<◌, ◌==◌, ◌&&◌, not, Bool, List, [], Option, Some, None, unwrap_or, position, slice_get, slice_set}
+use Rattle.std.specs.List.{filter, flat_map, range_with_len}
+use Rattle.std.specs.Prelude.{◌≡◌, ◌⊎◌, ℕ, ◌+◌, ◌-◌, ◌%◌, ◌<◌, ◌==◌, ◌&&◌, not, map, Bool, List, [], Option, Some, None, unwrap_or, position, slice_get, slice_set}
 use Rattle.fw_book.specs.Contents.{Contents, image_in}
 use Rattle.fw_head.specs.Head.{Head, news_of}
 use Rattle.fw_head.specs.Parts.{AreLiveRows, joined}
@@ -103,6 +103,14 @@ RowsHear old d told new =
     ((row next : Row) × (heard : RowNews) × RowGoesOn d.meter old row next new × RowHears row d.bytes heard next
     × (told ≡ news_of row.name.campaign d.meter heard))
     ⊎ (AllStay d.meter old new × (told ≡ news.Nothing))
+
+-- the rows of the meters of one shard, in their order: shard 0 to 7 has the meters whose number, modulo 8, is its own
+abbrev pub rows_of_shard : List Row → ℕ → List Row
+rows_of_shard rows shard = filter (λ (row : Row). row.client.meter % 8 == shard) rows
+
+-- rows as they are dealt to the eight shards
+abbrev pub dealt_rows : List Row → List (List Row)
+dealt_rows rows = map (rows_of_shard rows) (range_with_len 0 8)
 
 -- the rows of all shards
 abbrev pub all_rows : List Shard → List Row

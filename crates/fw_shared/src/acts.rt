@@ -2,8 +2,9 @@
 //!
 //! A meter, or a shard of the rows of a head end, is guarded by its lock in a type of this file, and each step of it leaves a `Recording`.
 //! A `Recording` can't be dropped, and nothing except `Recording::record` ends it: that appends the event to the log, once, and notes the
-//! receipt. So a step of a core, an event in the record and a receipt are made one for one. `Recording::record` borrows the guard of the
-//! lock, and asks that this lock guards what the step left. So the lock is held from the step until the event stands in the record.
+//! receipt. So a step of a core, an event in the record and a receipt are made one for one. Other files make a step only under a guard that
+//! they hand over, and get a `Held`: the guard and the `Recording` together. It gives the guard to nobody, and releases it when the event
+//! stands in the record. So the lock is held from the step until then, and no other guard can be taken for it.
 //!
 //! The lock of a meter or of a shard is taken first, and that of the log inside it. No two meters or shards are ever held by one
 //! call.
@@ -15,7 +16,9 @@ ghost use Rattle.std.specs.Prelude.{
   ◌<◌,
   ◌++◌,
   ◌∷◌,
+  ◌%◌,
   [],
+  map,
   not,
   position,
   length,
@@ -42,12 +45,13 @@ ghost use Rattle.fw_meter.specs.Handling.{reply_bytes};
 ghost use Rattle.fw_world.specs.Step.{deliver, replies, tick, turn};
 ghost use Rattle.fw_world.specs.View.{addressee};
 ghost use Rattle.fw_world.specs.declared.datagram.Actor.TheVariants as actor;
-ghost use Rattle.fw_shared.specs.Acts.{IsCoreRefusal, MeterServes, RowsHear, RowsTick, is_live_of};
+ghost use Rattle.std.specs.List.Sorted.{IsPermutation};
+ghost use Rattle.fw_shared.specs.Acts.{IsCoreRefusal, MeterServes, RowsHear, RowsTick, all_rows, dealt_rows, is_live_of};
 
 use fw_air::{CoreEvent, Receipt, Room, Sent, SharedLog};
 use fw_blocks::Width;
 use fw_book::Book;
-use fw_head::{News, Phase, RowCore, RowNews};
+use fw_head::{News, Phase, RowCore, RowNews, TakenRows};
 use fw_image::TransferStatus;
 use fw_meter::MeterCore;
 use fw_names::{CampaignId, HeadId, MeterId};
@@ -57,6 +61,9 @@ use std::alloc::{AllocError, Global};
 use std::marker::Model;
 use std::snapshot::Snapshot;
 use std::sync::{MutexGuard, Wait};
+
+/// How many shards a desk has.
+const SHARDS: usize = 8;
 
 /// What a core did under its lock, and what isn't in the record yet: the event, room with the datagrams that it sends, and, for contracts
 /// alone, what it left under the lock. It can't be dropped: only `record` ends it.
@@ -78,7 +85,7 @@ impl<T> Model for Recording<T> {
 impl<T> Recording<T> {
     /// Appends it to the log, once, and notes the receipt under the number that it has there. It asks for room for the receipt, and that
     /// what the core left is under the lock of this guard, which is held until the event stands in the log.
-    pub(crate) fn record<R: Wait>(
+    fn record<R: Wait>(
         self,
         rt: &R,
         log: &SharedLog,
@@ -100,6 +107,33 @@ impl<T> Recording<T> {
         let (number, event) = stub.spend();
         receipts.push_reserved(Receipt { number, event });
         sent
+    }
+}
+
+/// What a core did, and the guard of the lock under which it did it. What the core left stands under that guard, which is released by
+/// `record` alone.
+pub(crate) struct Held<'m, T> {
+    guard: MutexGuard<'m, T>,
+    act: Recording<T>,
+    ghost left: { mutex_guard_value guard ≡ act.left },
+}
+
+impl<'m, T> Held<'m, T> {
+    /// Appends the event to the log, once, notes the receipt under the number that it has there, and releases the lock. It asks for room
+    /// for the receipt.
+    pub(crate) fn record<R: Wait>(
+        self,
+        rt: &R,
+        log: &SharedLog,
+        receipts: &mut Vec<Receipt>,
+    ) -> Sent
+        requires { vec_len receipts.old < vec_capacity receipts.old }
+        ensures noted { receipts.new.items
+            ≡ receipts.old.items ++ (record { number = result.event; event = self.entry.act.event }) ∷ [] }
+        ensures sent { result.count ≡ length self.entry.act.sent }
+    {
+        let Held { guard, act } = self;
+        act.record(rt, log, &guard, receipts)
     }
 }
 
@@ -125,12 +159,46 @@ impl<S: ImageStore + Drop> GuardedMeter<S> {
         self.core
     }
 
+    /// `handle` of the meter under this guard.
+    pub(crate) fn handle_under<'m>(
+        mut guard: MutexGuard<'m, GuardedMeter<S>>,
+        alloc: Global,
+        meter: MeterId,
+        number: usize,
+        datagram: &Datagram,
+        room: Room,
+    ) -> Result<Held<'m, GuardedMeter<S>>, fw_meter::OutOfMemory>
+        requires addressee { addressee datagram.now ≡ actor.Meter meter }
+        requires empty { room ≡ [] }
+        ensures event { IfOk result (λ held. held.act.event ≡ deliver number) }
+        ensures step { IfOk result (λ held. MeterServes (mutex_guard_value guard.entry).core datagram.now held.act.sent held.act.left.core) }
+        ensures most { IfOk result (λ held. length held.act.sent ≤ 1) }
+    {
+        let act = guard.handle(alloc, meter, number, datagram, room)?;
+        Ok(Held { guard, act })
+    }
+
+    /// `turn` of the meter under this guard.
+    pub(crate) fn turn_under<'m>(
+        mut guard: MutexGuard<'m, GuardedMeter<S>>,
+        meter: MeterId,
+        room: Room,
+    ) -> Option<Held<'m, GuardedMeter<S>>>
+        requires { room ≡ [] }
+        ensures made { IfSome result (λ held. (held.act.event ≡ turn meter) × (held.act.sent ≡ [])) }
+        ensures step { IfSome result (λ held. Turns (mutex_guard_value guard.entry).core held.act.left.core) }
+        ensures otherwise { IfNone result (is_verifying (mutex_guard_value guard.entry).core.meter.phase ≡ false) }
+    {
+        let act = guard.turn(meter, room)?;
+        Some(Held { guard, act })
+    }
+
     /// Handles the datagram of this number, which is for this meter, and sends its reply.
     ///
     /// # Errors
     ///
     /// Out of memory alone. The meter is then as before.
-    pub(crate) fn handle(
+    fn handle(
         &mut self,
         alloc: Global,
         meter: MeterId,
@@ -155,7 +223,7 @@ impl<S: ImageStore + Drop> GuardedMeter<S> {
     }
 
     /// A turn of this meter, where it verifies. In every other status it is left as it is, and there is no `Recording`.
-    pub(crate) fn turn(&mut self, meter: MeterId, room: Room) -> Option<Recording<GuardedMeter<S>>>
+    fn turn(&mut self, meter: MeterId, room: Room) -> Option<Recording<GuardedMeter<S>>>
         requires { room ≡ [] }
         ensures made { IfSome result (λ act. (act.event ≡ turn meter) × (act.sent ≡ [])) }
         ensures left { IfSome result (λ act. act.left ≡ self.new) }
@@ -190,7 +258,7 @@ pub(crate) struct Shard {
 
 impl Shard {
     /// No row.
-    pub(crate) fn new(alloc: Global) -> Shard
+    fn new(alloc: Global) -> Shard
         ensures { result.rows.items ≡ [] }
     {
         Shard {
@@ -203,7 +271,7 @@ impl Shard {
     /// # Errors
     ///
     /// Out of memory alone. The row is then lost.
-    pub(crate) fn push(&mut self, row: RowCore) -> Result<(), AllocError>
+    fn push(&mut self, row: RowCore) -> Result<(), AllocError>
         ensures { OnOk result (self.new.rows.items ≡ self.old.rows.items ++ row ∷ []) }
     {
         self.rows.push(row)?;
@@ -226,12 +294,48 @@ impl Shard {
             .position(|row| row.meter() == meter && is_live(row))
     }
 
+    /// `tick` of the rows under this guard.
+    pub(crate) fn tick_under<'m>(
+        mut guard: MutexGuard<'m, Shard>,
+        alloc: Global,
+        book: &Book,
+        width: Width,
+        meter: MeterId,
+        room: Room,
+    ) -> Result<Held<'m, Shard>, fw_head::OutOfMemory>
+        requires { room ≡ [] }
+        ensures event { IfOk result (λ held. held.act.event ≡ tick book.now.head meter) }
+        ensures step { IfOk result (λ held. RowsTick book.now width meter (mutex_guard_value guard.entry).rows.items held.act.sent
+            held.act.left.rows.items) }
+        ensures most { IfOk result (λ held. length held.act.sent ≤ 15) }
+    {
+        let act = guard.tick(alloc, book, width, meter, room)?;
+        Ok(Held { guard, act })
+    }
+
+    /// `hear` of the rows under this guard.
+    pub(crate) fn hear_under<'m>(
+        mut guard: MutexGuard<'m, Shard>,
+        alloc: Global,
+        number: usize,
+        datagram: &Datagram,
+        room: Room,
+    ) -> Result<(Held<'m, Shard>, News), fw_head::OutOfMemory>
+        requires { room ≡ [] }
+        ensures act { IfOk result (λ heard. (heard.0.act.event ≡ deliver number) × (heard.0.act.sent ≡ [])) }
+        ensures step { IfOk result (λ heard. RowsHear (mutex_guard_value guard.entry).rows.items datagram.now heard.1
+            heard.0.act.left.rows.items) }
+    {
+        let (act, told) = guard.hear(alloc, number, datagram, room)?;
+        Ok((Held { guard, act }, told))
+    }
+
     /// The live row of a meter, if it has one, sends what it has for the meter now.
     ///
     /// # Errors
     ///
     /// Out of memory alone. The rows are then as before.
-    pub(crate) fn tick(
+    fn tick(
         &mut self,
         alloc: Global,
         book: &Book,
@@ -267,7 +371,7 @@ impl Shard {
     /// # Errors
     ///
     /// Out of memory alone. The rows are then as before.
-    pub(crate) fn hear(
+    fn hear(
         &mut self,
         alloc: Global,
         number: usize,
@@ -293,6 +397,34 @@ impl Shard {
         let act = Recording { event, room, left };
         Ok((act, news_of(campaign, meter, told)))
     }
+}
+
+/// Deals rows to the shards of their meters: each row to one shard, and none is lost. Other files make no shard.
+///
+/// # Errors
+///
+/// Out of memory alone. The rows are then lost.
+pub(crate) fn dealt(alloc: Global, rows: TakenRows) -> Result<Vec<Shard>, AllocError>
+    ensures count { IfOk result (λ shards. vec_len shards ≡ 8) }
+    ensures rows { IfOk result (λ shards. map (λ shard. shard.rows.items) shards.items ≡ dealt_rows rows) }
+    ensures all { IfOk result (λ shards. IsPermutation rows (all_rows shards.items)) }
+{
+    let mut shards = Vec::new(alloc);
+    for _ in 0..SHARDS {
+        shards.push(Shard::new(alloc))?;
+    }
+    for row in rows {
+        shards[place(row.meter())].push(row)?;
+    }
+    Ok(shards)
+}
+
+/// Which shard a meter's row is dealt to.
+pub(crate) fn place(meter: MeterId) -> usize
+    ensures value { result ≡ meter % 8 }
+    ensures within { result < 8 }
+{
+    meter.number() as usize % SHARDS
 }
 
 /// Whether a row hasn't ended.

@@ -1,6 +1,6 @@
 //! A head end that workers share.
 
-ghost use Rattle.std.specs.Prelude.{◌≡◌, ◌≤◌, ◌<◌, ◌%◌, IsTrue, IfOk, IfErr, OnOk, OnErr, if◌then◌else◌};
+ghost use Rattle.std.specs.Prelude.{◌≡◌, ◌≤◌, ◌<◌, IsTrue, IfOk, IfErr, OnOk, OnErr, if◌then◌else◌};
 ghost use Rattle.std.specs.Vec.{vec_len};
 ghost use Rattle.fw_air.specs.Rounds.{stands_in};
 ghost use Rattle.fw_world.specs.Step.{deliver, tick};
@@ -8,21 +8,18 @@ ghost use Rattle.fw_world.specs.declared.error.StepError.TheVariants.{NoSuchActo
 ghost use Rattle.fw_shared.specs.Seat.{noted};
 ghost use Rattle.fw_shared.specs.Acts.{HasHeard, IsCoreRefusal, IsPutBack, MarksDone, all_rows};
 
-use crate::acts::{Shard, addressed};
+use crate::acts::{Shard, addressed, dealt, place};
 use crate::board::Board;
 use crate::seat::Seat;
 use fw_air::{Sent, SharedLog};
 use fw_blocks::Width;
 use fw_book::Book;
-use fw_head::{HeadCore, HeadParts, News, PutError, RowCore, TakenRows};
+use fw_head::{HeadCore, HeadParts, News, PutError, RowCore};
 use fw_names::{HeadId, MeterId};
 use fw_world::{Actor, StepError};
 use std::alloc::{AllocError, Global};
 use std::marker::Model;
 use std::sync::{Mutex, Wait};
-
-/// How many shards a desk has.
-const SHARDS: usize = 8;
 
 /// A head end whose live rows are dealt to eight shards by the numbers of their meters, each under a lock of its own, in which the
 /// log's lock is taken for one append. Its book is as it was when the desk was made: how rows ended is marked in it when they are
@@ -116,9 +113,9 @@ impl Desk {
         }
         seat.receipts.reserve(1)?;
         let room = log.reserve(alloc)?;
-        let mut shard = self.shard(meter).lock(rt);
-        let act = shard.tick(alloc, &self.book, self.width, meter, room)?;
-        Ok(act.record(rt, log, &shard, &mut seat.receipts))
+        let shard = self.shard(meter).lock(rt);
+        let held = Shard::tick_under(shard, alloc, &self.book, self.width, meter, room)?;
+        Ok(held.record(rt, log, &mut seat.receipts))
     }
 
     /// Hears the datagram of this number, which is for this head end: a delivery, for which the seat has a receipt. Where a meter
@@ -145,10 +142,9 @@ impl Desk {
         let datagram = addressed(rt, alloc, log, Actor::Head(self.head()), number)?;
         seat.receipts.reserve(1)?;
         let room = log.reserve(alloc)?;
-        let mut shard = self.shard(datagram.meter).lock(rt);
-        let (act, told) = shard.hear(alloc, number, &datagram, room)?;
-        act.record(rt, log, &shard, &mut seat.receipts);
-        drop(shard);
+        let shard = self.shard(datagram.meter).lock(rt);
+        let (held, told) = Shard::hear_under(shard, alloc, number, &datagram, room)?;
+        held.record(rt, log, &mut seat.receipts);
         mark_done(board, seat, &told);
         Ok(told)
     }
@@ -177,28 +173,6 @@ fn mark_done(board: &Board, seat: &mut Seat, told: &News)
     if let News::Done(..) = told {
         board.add(seat);
     }
-}
-
-/// Which shard a meter's row is dealt to.
-fn place(meter: MeterId) -> usize
-    ensures value { result ≡ meter % 8 }
-    ensures within { result < 8 }
-{
-    meter.number() as usize % SHARDS
-}
-
-/// Deals rows to the shards of their meters.
-fn dealt(alloc: Global, rows: TakenRows) -> Result<Vec<Shard>, AllocError>
-    ensures { IfOk result (λ shards. vec_len shards ≡ 8) }
-{
-    let mut shards = Vec::new(alloc);
-    for _ in 0..SHARDS {
-        shards.push(Shard::new(alloc))?;
-    }
-    for row in rows {
-        shards[place(row.meter())].push(row)?;
-    }
-    Ok(shards)
 }
 
 /// Each shard under a lock of its own.

@@ -79,9 +79,9 @@ impl<S: ImageStore + Drop> SharedMeter<S> {
         let datagram = addressed(rt, alloc, log, Actor::Meter(self.meter), number)?;
         seat.receipts.reserve(1)?;
         let room = log.reserve(alloc)?;
-        let mut core = self.core.lock(rt);
-        let act = core.handle(alloc, self.meter, number, &datagram, room)?;
-        Ok(act.record(rt, log, &core, &mut seat.receipts))
+        let core = self.core.lock(rt);
+        let held = GuardedMeter::handle_under(core, alloc, self.meter, number, &datagram, room)?;
+        Ok(held.record(rt, log, &mut seat.receipts))
     }
 
     /// A turn of the meter, where it verifies: the seat has a receipt for it. In every other status nothing is done, and no event
@@ -103,11 +103,11 @@ impl<S: ImageStore + Drop> SharedMeter<S> {
     {
         seat.receipts.reserve(1)?;
         let room = log.reserve(alloc)?;
-        let mut core = self.core.lock(rt);
-        let Some(act) = core.turn(self.meter, room) else {
+        let core = self.core.lock(rt);
+        let Some(held) = GuardedMeter::turn_under(core, self.meter, room) else {
             return Ok(false);
         };
-        act.record(rt, log, &core, &mut seat.receipts);
+        held.record(rt, log, &mut seat.receipts);
         Ok(true)
     }
 

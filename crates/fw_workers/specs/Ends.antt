@@ -1,5 +1,5 @@
 -- Public vocabulary: how workers end.
-use Rattle.std.specs.Prelude.{◌≡◌, ◌⊎◌, List, [], ◌∷◌, Option, None, Some, Result, Ok, Err, IfErr, IsErrOf}
+use Rattle.std.specs.Prelude.{◌≡◌, ◌≤◌, ◌^◌, ◌⊎◌, ℕ, List, [], ◌∷◌, All, Option, None, Some, Result, Ok, Err, IfErr, IsErrOf}
 use Rattle.fw_workers.specs.declared.error.RoundsError.{RoundsError}
 use Rattle.fw_workers.specs.declared.error.RoundsError.TheVariants as unaccounted
 
@@ -19,10 +19,32 @@ abbrev pub IsLowestRefusal : {H : Type 0} → (H → End → Type 0) → List H 
 IsLowestRefusal may_end [] refusal = ⊥
 IsLowestRefusal may_end (share ∷ shares) refusal = may_end share (Err refusal) ⊎ (may_end share (Ok tt) × IsLowestRefusal may_end shares refusal)
 
--- a reason that is no single worker's: a gate refuses nothing but a worker
-abbrev pub IsOfAll : RoundsError → Type 0
-IsOfAll unaccounted.GateShut = ⊥
-IsOfAll other = Unit {0}
+-- a thread or memory is refused
+abbrev pub IsUnstarted : RoundsError → Type 0
+IsUnstarted unaccounted.OutOfMemory = Unit {0}
+IsUnstarted unaccounted.ThreadRefused = Unit {0}
+IsUnstarted other = ⊥
+
+-- What is refused before any worker makes an event, where this many rows are done at the beginning: memory or a thread is refused,
+-- or these rows are too many to count.
+abbrev pub ComesFirst : ℕ → RoundsError → Type 0
+ComesFirst done unaccounted.OutOfMemory = Unit {0}
+ComesFirst done unaccounted.ThreadRefused = Unit {0}
+ComesFirst done unaccounted.Mismatch = 2 ^ 63 ≤ done
+ComesFirst done unaccounted.GateShut = ⊥
+
+-- what is refused when all workers ended well: memory, or what they left isn't what the record says
+abbrev pub ComesLast : RoundsError → Type 0
+ComesLast unaccounted.OutOfMemory = Unit {0}
+ComesLast unaccounted.Mismatch = Unit {0}
+ComesLast other = ⊥
+
+-- Why there is no report: the first of these that applies. It comes first; it is the refusal of the lowest worker that was refused; or
+-- the rounds of all shares may end well, and it comes last.
+abbrev pub IsReason : {H : Type 0} → ℕ → (H → End → Type 0) → List H → RoundsError → Type 0
+IsReason done may_end shares refusal =
+    ComesFirst done refusal
+    ⊎ (IsLowestRefusal may_end shares refusal ⊎ (All (λ share. may_end share (Ok tt)) shares × ComesLast refusal))
 
 -- a reason of an event of a worker: no thread is started for one
 abbrev pub IsOfEvent : RoundsError → Type 0

@@ -2,6 +2,7 @@
 pub mod Beginnings
 pub mod Deals
 pub mod Ends
+pub mod Private
 pub mod Recorded
 pub mod Refusals
 pub mod Seated

@@ -1,7 +1,7 @@
 //! Why a rehearsal or a live rollout has no report.
 
 ghost use Rattle.std.specs.Prelude.{◌≡◌, ◌≢◌};
-ghost use Rattle.fw_workers.specs.Ends.{IsOfAll, IsOfEvent};
+ghost use Rattle.fw_workers.specs.Ends.{ComesLast, IsOfEvent};
 ghost use Rattle.fw_workers.specs.Refusals.{IsLater, of_account, of_put, of_rounds, of_setup, of_step};
 ghost use Rattle.fw_workers.specs.declared.error.RehearseError.TheVariants as refused;
 ghost use Rattle.fw_workers.specs.declared.error.RoundsError.TheVariants as unaccounted;
@@ -67,7 +67,7 @@ impl From<SetupError> for RehearseError {
 }
 
 /// Why what workers did is not accounted for. A setup, a given event or the wires are never the reason.
-#[derive(Clone, Copy, Debug, Drop)]
+#[derive(Clone, Copy, Debug, Drop, Error)]
 pub enum RoundsError {
     /// What the workers left isn't what their record says.
     Mismatch,
@@ -77,6 +77,12 @@ pub enum RoundsError {
     OutOfMemory,
     /// A gate did not let a worker go on.
     GateShut,
+}
+
+impl fmt::Display for RoundsError {
+    fn fmt<W: fmt::Write>(&self, f: &mut fmt::Formatter<W>) -> fmt::Result {
+        fmt::Debug::fmt(self, f)
+    }
 }
 
 impl From<RoundsError> for RehearseError {
@@ -129,7 +135,7 @@ impl From<StepError> for RoundsError {
 }
 
 impl From<PutError> for RoundsError {
-    ghost from_gives = { λ refusal e. (e ≡ of_put refusal) × IsOfAll e };
+    ghost from_gives = { λ refusal e. (e ≡ of_put refusal) × ComesLast e };
 
     fn from(refusal: PutError) -> RoundsError {
         match refusal {
@@ -140,7 +146,7 @@ impl From<PutError> for RoundsError {
 }
 
 impl From<AccountError> for RoundsError {
-    ghost from_gives = { λ refusal e. (e ≡ of_account refusal) × IsOfAll e };
+    ghost from_gives = { λ refusal e. (e ≡ of_account refusal) × ComesLast e };
 
     fn from(refusal: AccountError) -> RoundsError {
         match refusal {

@@ -2,6 +2,7 @@
 #![tactic(auto)]
 
 mod beginning;
+mod begun;
 mod deal;
 mod error;
 mod fated_rounds;

@@ -3,7 +3,10 @@
 ghost use Rattle.std.specs.Prelude.{◌≡◌, ◌<◌, ◌≤◌, ◌^◌, All, IfOk, IfErr, IfSome, IsErrOf, None, map};
 ghost use Rattle.fw_accounts.specs.Reported.{IsReported};
 ghost use Rattle.fw_world.specs.Runs.{events_of};
-ghost use Rattle.fw_workers.specs.Ends.{EndsAs, IsOfAll, lowest_refusal};
+ghost use Rattle.std.specs.Vec.{vec_len};
+ghost use Rattle.fw_world.specs.Done.{done_rows};
+ghost use Rattle.fw_workers.specs.Ends.{ComesFirst, ComesLast, EndsAs, lowest_refusal};
+ghost use Rattle.fw_workers.specs.Private.{halves, numbers};
 
 use crate::beginning::Beginning;
 use crate::error::RoundsError;
@@ -17,10 +20,11 @@ use std::alloc::Global;
 use std::snapshot::Snapshot;
 use std::thread::Promise;
 
-/// What a worker begins with: its number, its seat, and what is dealt to it.
+/// What a worker begins with: its number, how many workers there are, its seat, and what is dealt to it.
 #[derive(Drop)]
 pub(crate) struct Job<H: Drop> {
     pub(crate) number: u32,
+    pub(crate) workers: usize,
     pub(crate) seat: Seat,
     pub(crate) share: H,
 }
@@ -54,13 +58,15 @@ pub(crate) struct Seating {
 }
 
 impl Seating {
-    /// The seating for this opening. The board begins with the rows that are done.
+    /// The seating for this opening. The board begins with the rows that are done, and 2^63 marks are left to its seat.
     pub(crate) fn of(
         alloc: Global,
         setup: &Setup,
         opening: Beginning,
     ) -> Result<Seating, RoundsError>
-        ensures { IfErr result IsOfAll }
+        ensures start { IfOk result (λ made. made.shared.board.start ≡ done_rows setup.now opening.world) }
+        ensures marks { IfOk result (λ made. made.seat.allowance ≡ 2 ^ 63) }
+        ensures cause { IfErr result (ComesFirst (done_rows setup.now opening.world)) }
     {
         let done = marks_of(setup, &opening.world)?;
         let (board, seat) = Board::new(alloc, done)?;
@@ -78,8 +84,12 @@ impl Seating {
     ) -> Result<Vec<Job<H>>, RoundsError>
         ensures seats { IfOk result (λ v. All (λ job. job.seat.board ≡ self.new.shared.board.id) v.items) }
         ensures shares { IfOk result (λ v. map (λ job. job.share) v.items ≡ shares.items) }
+        ensures workers { IfOk result (λ v. All (λ job. job.workers ≡ vec_len shares) v.items) }
+        ensures numbers { IfOk result (λ v. map (λ job. job.number) v.items ≡ numbers (vec_len v)) }
+        ensures marks { IfOk result (λ v. map (λ job. job.seat.allowance) v.items ≡ halves self.old.seat.allowance (vec_len v)) }
         ensures memory { IfErr result (λ e. e ≡ RoundsError.OutOfMemory) }
     {
+        let workers = shares.len();
         let mut jobs = Vec::new(alloc);
         let mut number = 0u32;
         for share in shares {
@@ -87,6 +97,7 @@ impl Seating {
             let seat = self.shared.board.split(alloc, &mut self.seat, marks)?;
             jobs.push(Job {
                 number,
+                workers,
                 seat,
                 share,
             })?;
@@ -111,7 +122,7 @@ impl Seating {
         ensures reported { IfOk result (λ r. IsReported setup.now (events_of given.now) rounds workers
             r.world r.board r.receipts.items) }
         ensures refused { IfSome (lowest_refusal (map (λ outcome. outcome.ended) outcomes.items)) (λ e. IsErrOf result e) }
-        ensures otherwise { lowest_refusal (map (λ outcome. outcome.ended) outcomes.items) ≡ None → IfErr result IsOfAll }
+        ensures otherwise { lowest_refusal (map (λ outcome. outcome.ended) outcomes.items) ≡ None → IfErr result ComesLast }
     {
         let Seating { shared, mut seat } = self;
         let receipts = gathered(alloc, &shared.board, &mut seat, outcomes)?;
@@ -123,12 +134,17 @@ impl Seating {
 
 /// The count with which the board begins: the rows that are done.
 fn marks_of(setup: &Setup, world: &World) -> Result<u64, RoundsError>
+    ensures value { IfOk result (λ done. done ≡ done_rows setup.now world.now) }
     ensures fits { IfOk result (λ done. done < 2 ^ 63) }
-    ensures cause { IfErr result (λ e. e ≡ RoundsError.Mismatch) }
+    ensures cause { IfErr result (ComesFirst (done_rows setup.now world.now)) }
 {
-    match done_rows(setup, world) {
-        Some(done) if done < 1 << 63 => Ok(done),
-        _ => Err(RoundsError::Mismatch),
+    let Some(done) = done_rows(setup, world) else {
+        return Err(RoundsError::Mismatch);
+    };
+    if done < 1 << 63 {
+        Ok(done)
+    } else {
+        Err(RoundsError::Mismatch)
     }
 }
 

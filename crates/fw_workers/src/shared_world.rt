@@ -5,7 +5,7 @@ ghost use Rattle.std.specs.Prelude.{◌≡◌, ◌≤◌, false, IsTrue, None, I
 ghost use Rattle.std.specs.Option.{option_copied};
 ghost use Rattle.fw_air.specs.Rounds.{stands_in};
 ghost use Rattle.fw_world.specs.Step.{deliver, tick};
-ghost use Rattle.fw_workers.specs.Ends.{IsOfAll, IsOfEvent};
+ghost use Rattle.fw_workers.specs.Ends.{ComesLast, IsOfEvent};
 ghost use Rattle.fw_workers.specs.Seated.{HasLetHear, HasLooked, HasMade, HasTurned, desk_of, meter_of};
 
 use crate::beginning::Beginning;
@@ -75,7 +75,7 @@ impl SharedWorld {
         receipts: Vec<Receipts>,
     ) -> Result<LeftByWorkers, RoundsError>
         requires { seat.board ≡ self.board.id }
-        ensures { IfErr result IsOfAll }
+        ensures { IfErr result ComesLast }
     {
         let SharedWorld {
             desks,
@@ -255,7 +255,7 @@ fn desks_of(alloc: Global, heads: Vec<HeadCore>) -> Result<Vec<Desk>, RoundsErro
 
 /// The head ends as the workers left them.
 fn heads_of(alloc: Global, desks: Vec<Desk>) -> Result<Vec<HeadCore>, RoundsError>
-    ensures { IfErr result IsOfAll }
+    ensures { IfErr result ComesLast }
 {
     let mut heads = Vec::new(alloc);
     for desk in desks {

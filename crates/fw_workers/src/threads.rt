@@ -4,7 +4,8 @@ ghost use Rattle.std.specs.Prelude.{◌≡◌, ◌≤◌, ◌⊎◌, All, IfOk, 
 ghost use Rattle.std.specs.List.{AllZip};
 ghost use Rattle.fw_accounts.specs.Reported.{IsReported};
 ghost use Rattle.fw_world.specs.Runs.{events_of};
-ghost use Rattle.fw_workers.specs.Ends.{End, EndsAs, IsLowestRefusal, IsOfAll};
+ghost use Rattle.fw_world.specs.Done.{done_rows};
+ghost use Rattle.fw_workers.specs.Ends.{End, EndsAs, IsReason, IsUnstarted};
 
 use crate::beginning::Beginning;
 use crate::error::RoundsError;
@@ -55,8 +56,9 @@ pub trait Share {
 ///
 /// # Errors
 ///
-/// `ThreadRefused` where a thread could not be started: no worker began. Then the lowest worker's: `GateShut`, `OutOfMemory` or
-/// `Mismatch`. `Mismatch` too where what they left isn't what their receipts say.
+/// The first of these that applies: `OutOfMemory`, `ThreadRefused` where a thread could not be started, or `Mismatch` where 2^63 rows
+/// are done, and no worker began; the lowest worker's, `GateShut`, `OutOfMemory` or `Mismatch`; and where all ended well `Mismatch`, where
+/// what they left isn't what their receipts say, or `OutOfMemory`.
 pub fn work<R: Threads + Wait + Sync, G: Gate + Sync, H: Share + Send + Drop>(
     rt: &R,
     alloc: Global,
@@ -68,7 +70,7 @@ pub fn work<R: Threads + Wait + Sync, G: Gate + Sync, H: Share + Send + Drop>(
     ensures reported { IfOk result (λ r. IsReported task.now.setup.now (events_of task.now.given.now) task.now.rounds task.now.workers
         r.world r.board r.receipts.items) }
     ensures ended { IfOk result (λ _. All (λ share. H.may_end G.may_shut share (Ok tt)) shares.items) }
-    ensures lowest { IfErr result (λ e. IsOfAll e ⊎ IsLowestRefusal (H.may_end G.may_shut) shares.items e) }
+    ensures lowest { IfErr result (IsReason (done_rows task.now.setup.now opening.world) (H.may_end G.may_shut) shares.items) }
 {
     let mut seating = Seating::of(alloc, task.setup, opening)?;
     let jobs = seating.seat(alloc, shares)?;
@@ -96,7 +98,7 @@ fn spawned<R: Threads + Wait + Sync, G: Gate + Sync, H: Share + Send + Drop>(
     requires { All (λ job. job.seat.board ≡ shared.now.board.id) jobs.items }
     ensures seats { IfOk result (λ v. All (λ outcome. outcome.seat.board ≡ shared.now.board.id) v.items) }
     ensures ends { IfOk result (λ v. AllZip (EndsAs (H.may_end G.may_shut)) (map (λ job. job.share) jobs.items) (map (λ outcome. outcome.ended) v.items)) }
-    ensures cause { IfErr result IsOfAll }
+    ensures cause { IfErr result IsUnstarted }
 {
     let start = Start::new();
     let start = &start;
@@ -107,7 +109,7 @@ fn spawned<R: Threads + Wait + Sync, G: Gate + Sync, H: Share + Send + Drop>(
             requires { All (λ job. job.seat.board ≡ shared.now.board.id) jobs.items }
             ensures seats { IfOk result (λ v. All (λ outcome. outcome.seat.board ≡ shared.entry.now.board.id) v.items) }
             ensures ends { IfOk result (λ v. AllZip (EndsAs (H.may_end G.may_shut)) (map (λ job. job.share) jobs.items) (map (λ outcome. outcome.ended) v.items)) }
-            ensures cause { IfErr result IsOfAll }
+            ensures cause { IfErr result IsUnstarted }
         {
             let starter = Starter::of(start);
             let mut rest = jobs;
@@ -131,7 +133,7 @@ fn spawned<R: Threads + Wait + Sync, G: Gate + Sync, H: Share + Send + Drop>(
                     return Err(starter.refuse(rt, RoundsError::OutOfMemory));
                 };
             }
-            starter.begin(rt, &rest);
+            starter.begin(rt, &rest, &children);
             match thread::join_promised(rt, children) {
                 Ok(outcomes) => Ok(outcomes),
                 Err(_) => Err(RoundsError::OutOfMemory),
@@ -154,18 +156,13 @@ fn work_off<R: Wait, G: Gate, H: Share + Drop>(
     ensures seat { result.seat.board ≡ shared.now.board.id }
     ensures end { EndsAs (H.may_end G.may_shut) job.share result.ended }
 {
-    let Job {
-        number,
-        seat,
-        mut share,
-    } = job;
-    if !start.waits(rt) {
+    let Some(begun) = start.waits(rt, job.workers) else {
         return Outcome {
-            seat,
+            seat: job.seat,
             ended: Err(RoundsError::ThreadRefused),
         };
-    }
-    let mut worker = Worker::new(number, seat, gate);
+    };
+    let (mut worker, mut share) = Worker::of(job, gate, begun);
     let ended = share.rounds(rt, alloc, shared, &mut worker, rounds);
     Outcome {
         seat: worker.into_seat(),

@@ -1,6 +1,6 @@
 //! The wires of a worker's links, in a thread of their own. What is lost there is loss on the wire: no clause speaks of it.
 
-ghost use Rattle.std.specs.Prelude.{◌≡◌, IfErr};
+ghost use Rattle.std.specs.Prelude.{◌≡◌, IfOk, IfErr};
 
 use crate::error::RoundsError;
 use crossbeam_channel::{Receiver, SendError, Sender, unbounded};
@@ -149,14 +149,14 @@ fn pass<W: Wire, R: Wait>(
     arrivals: &Sender<Arrival>,
 ) -> Result<(), Ended> {
     for (link, (head, meter)) in wires.iter_mut().enumerate() {
-        read(rt, alloc, meter, link, Direction::ToMeter, arrivals)?;
-        read(rt, alloc, head, link, Direction::ToHead, arrivals)?;
+        let _meters = read(rt, alloc, meter, link, Direction::ToMeter, arrivals)?;
+        let _heads = read(rt, alloc, head, link, Direction::ToHead, arrivals)?;
     }
     arrivals.send(rt, Arrival::Over)?;
     Ok(())
 }
 
-/// Passes on what came to an end of a wire, in a pass.
+/// Passes on what came to an end of a wire, in a pass, and returns the pass once it is over.
 fn read<W: Wire, R: Wait>(
     rt: &R,
     alloc: Global,
@@ -164,7 +164,9 @@ fn read<W: Wire, R: Wait>(
     link: usize,
     direction: Direction,
     arrivals: &Sender<Arrival>,
-) -> Result<(), Ended> {
+) -> Result<Pass, Ended>
+    ensures { IfOk result (λ pass. pass.left ≡ 0) }
+{
     let mut buffer = [0; MAX_RECEIVED];
     let mut pass = Pass::new();
     'datagrams: while let Some(count) = pass.next(wire, &mut buffer) {
@@ -176,5 +178,5 @@ fn read<W: Wire, R: Wait>(
         };
         arrivals.send(rt, Arrival::Came(datagram))?;
     }
-    Ok(())
+    Ok(pass)
 }

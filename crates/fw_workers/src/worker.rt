@@ -3,8 +3,10 @@
 ghost use Rattle.std.specs.Prelude.{◌≡◌, IfErr};
 ghost use Rattle.fw_workers.specs.Seated.{HasLooked};
 
+use crate::begun::Begun;
 use crate::error::RoundsError;
 use crate::gate::Gate;
+use crate::seating::Job;
 use fw_shared::{Board, Seat};
 use std::marker::Model;
 
@@ -28,16 +30,26 @@ impl<'a, G: Gate> Model for Worker<'a, G> {
 }
 
 impl<'a, G: Gate> Worker<'a, G> {
-    /// A worker that was not at the gate yet.
-    pub(crate) fn new(number: u32, seat: Seat, gate: &'a G) -> Worker<'a, G>
-        ensures { result ≡ seat }
+    /// The worker of this job, which was not at this gate yet, and its share. It asks that as many threads are there as there are workers.
+    pub(crate) fn of<H: Drop>(job: Job<H>, gate: &'a G, begun: Begun) -> (Worker<'a, G>, H)
+        requires { begun.threads ≡ job.workers }
+        ensures seat { result.0 ≡ job.seat }
+        ensures share { result.1 ≡ job.share }
     {
-        Worker {
+        let _threads = begun;
+        let Job {
+            number,
+            seat,
+            share,
+            ..
+        } = job;
+        let worker = Worker {
             number,
             seat,
             gate,
             step: 0,
-        }
+        };
+        (worker, share)
     }
 
     /// Asks the gate whether it may make its next event.

@@ -10,8 +10,8 @@ returns-clause-heard g c =
     let old = c.args.seat.now in
     let number = c.args.number in
     let event = c.record.result.event in
-    let told = c.in_ok-act.told in
-    let made = c.in_ok-act.ensures.act.0 in
-    let middle = noted_as _ old c.reserve.new.self.items c.record.new.receipts.items event c.in_ok-act.act.event (deliver number) c.seat.view_is c.reserve.ensures.items made c.record.ensures.noted in
+    let told = c.in_ok-held.told in
+    let made = c.in_ok-held.ensures.act.0 in
+    let middle = noted_as _ old c.reserve.new.self.items c.record.new.receipts.items event c.in_ok-held.held.act.event (deliver number) c.seat.view_is c.reserve.ensures.items made c.record.ensures.noted in
     let P : Seat → Type 0 = λ seat. MarksDone told seat c.mark_done.new.seat in
     (event, subst P middle c.mark_done.ensures)

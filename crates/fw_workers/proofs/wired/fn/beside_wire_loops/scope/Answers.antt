@@ -6,5 +6,5 @@ pub returns : goal.returns
 returns g c =
     record {
       reported = search rules;
-      shut = shut_told g.G.Gate.may_shut _ c.work.result c.work.ensures.lowest;
+      shut = shut_told _ g.G.Gate.may_shut _ c.work.result c.work.ensures.lowest;
     }
