@@ -2,3 +2,4 @@ mod Addressed
 pub mod Listings
 mod Taken
 mod Makings
+pub mod Tellings

@@ -1,9 +1,11 @@
 -- Public vocabulary: the words of public clauses, for callers and readers.
+pub mod Telling
 pub mod Meters
 pub mod Lists
 pub mod Heads
 pub mod Openings
 pub mod Addresses
+pub mod Clocks
 pub mod Strangers
 pub mod Captures
 pub mod BegunCapture

@@ -1,12 +1,13 @@
 -- Public vocabulary: the campaigns of an opening, and when the book has one of them already.
-use Rattle.std.specs.Prelude.{◌≡◌, ◌⊎◌, ℕ, ◌+◌, ◌/◌, ◌<◌, ◌-◌, ◌≤◌, ◌^◌, List, [], map, length, All, Contains, IsSomeAnd, None, Some}
+use Rattle.std.specs.Prelude.{◌≡◌, ◌⊎◌, ℕ, ◌+◌, ◌/◌, ◌<◌, ◌-◌, ◌≤◌, ◌^◌, List, [], ◌∷◌, Option, map, length, All, Contains, IsSomeAnd, None, Some}
 use Rattle.std.specs.List.{flat_map, range_with_len}
 use Rattle.fw_book.specs.declared.error.BookError.{BookError}
 use Rattle.fw_book.specs.declared.error.BookError.TheVariants.{NoMeters}
-use Rattle.fw_names.specs.Name.{Campaign}
+use Rattle.fw_names.specs.Name.{Campaign, Name, name_of}
 use Rattle.fw_book.specs.Changes.{opening_refusal}
 use Rattle.fw_book.specs.Contents.{Contents, Offered, max_meters, offered_in}
 use Rattle.fw_book.specs.Rows.{meters_of}
+use Rattle.fw_head.specs.Head.{Head, campaign_at, opened_head}
 use Rattle.fw_rollout.specs.declared.link.Listed.{Listed}
 use Rattle.fw_faults.specs.declared.fault.Fault.{Fault}
 use Rattle.fw_faults.specs.declared.fault.Fault.TheVariants.{BadSetup, OpenRefused, OutOfMemory}
@@ -60,6 +61,19 @@ IsOpenIn book release image part =
 abbrev pub IsTakenBy : Contents → ℕ → List ℕ → Part → Type 0
 IsTakenBy book release image part =
     IsOpenIn book release image part ⊎ (opening_refusal book (campaign_in book part.serial) image part.meters.items ≡ None)
+
+-- a head end opens a campaign, and this is the name of its image then; one that the book has already is passed over
+abbrev pub OpensPart : ℕ → List ℕ → Part → Head → Option Name → Head → Type 0
+OpensPart release image part old None new = IsOpenIn old.book release image part × (new ≡ old)
+OpensPart release image part old (Some name) new =
+    ¬ IsOpenIn old.book release image part × (name ≡ name_of (campaign_at old part.serial) release image)
+    × (new ≡ opened_head old part.serial release image part.meters.items)
+
+-- so it does with these, one after the other
+abbrev pub OpensParts : ℕ → List ℕ → List Part → Head → Head → Type 0
+OpensParts release image [] old new = new ≡ old
+OpensParts release image (part ∷ parts) old new =
+    (name : Option Name) × (next : Head) × OpensPart release image part old name next × OpensParts release image parts next new
 
 -- the fault that the book's first refusal of this campaign is
 abbrev pub RefusesPart : Contents → List ℕ → Part → Fault → Type 0

@@ -36,6 +36,8 @@ impl<'a, C: Clock, S: Sink + Drop, P: PortBelow> CapturePort<'a, C, S, P> {
     ) -> CapturePort<'a, C, S, P>
         ensures at { result.recorder.at ≡ at }
         ensures sink { result.recorder.sink ≡ sink }
+        ensures strangers { result.recorder.strangers.ghost_name ≡ strangers.entry.ghost_name }
+        ensures known { result.recorder.strangers.now ≡ strangers.old }
         ensures turns { result.recorder.has_turns ≡ false }
         ensures open { result.recorder.failed ≡ false }
     {
@@ -56,6 +58,8 @@ impl<'a, C: Clock, S: Sink + Drop, P: PortBelow> CapturePort<'a, C, S, P> {
     ) -> CapturePort<'a, C, S, P>
         ensures at { result.recorder.at ≡ at }
         ensures sink { result.recorder.sink ≡ sink }
+        ensures strangers { result.recorder.strangers.ghost_name ≡ strangers.entry.ghost_name }
+        ensures known { result.recorder.strangers.now ≡ strangers.old }
         ensures turns { result.recorder.has_turns ≡ true }
         ensures open { result.recorder.failed ≡ false }
     {

@@ -12,7 +12,7 @@ use fw_rollout::{Counts, Ended};
 use std::alloc::{AllocError, Global};
 
 /// The line of a campaign that was opened.
-pub fn opened_line(alloc: Global, name: ImageName) -> Result<String, AllocError>
+pub(crate) fn opened_line(alloc: Global, name: ImageName) -> Result<String, AllocError>
     ensures { IfOk result (λ text. string_bytes text ≡ opened_line name) }
 {
     let (head, serial) = (head_number(name.campaign), name.campaign.serial());
@@ -22,7 +22,7 @@ pub fn opened_line(alloc: Global, name: ImageName) -> Result<String, AllocError>
 }
 
 /// The line of a campaign that was cancelled.
-pub fn cancelled_line(alloc: Global, campaign: CampaignId) -> Result<String, AllocError>
+pub(crate) fn cancelled_line(alloc: Global, campaign: CampaignId) -> Result<String, AllocError>
     ensures { IfOk result (λ text. string_bytes text ≡ cancelled_line campaign) }
 {
     let (head, serial) = (head_number(campaign), campaign.serial());
@@ -44,7 +44,7 @@ pub(crate) fn ended_line(alloc: Global, ended: Ended) -> Result<String, AllocErr
 }
 
 /// The line at the end of the command.
-pub fn over_line(alloc: Global, counts: Counts) -> Result<String, AllocError>
+pub(crate) fn over_line(alloc: Global, counts: Counts) -> Result<String, AllocError>
     ensures { IfOk result (λ text. string_bytes text ≡ over_line counts) }
 {
     let (done, failed) = (counts.done, counts.failed);

@@ -9,6 +9,7 @@ ghost use Rattle.std.specs.Prelude.{
   IfOk,
   IsErrOf,
   IsTrue,
+  MatchOption,
   None,
   OnErr,
   OnOk,
@@ -22,7 +23,7 @@ ghost use Rattle.fw_book.specs.declared.error.BookError.{BookError};
 ghost use Rattle.fw_head.specs.Head.{campaign_at, cancelled_head, opened_head};
 ghost use Rattle.fw_kept.specs.Head.{Holds, book_of, head_of};
 ghost use Rattle.fw_host.specs.Heads.{IsCancelFault, IsOfLeading, IsOpenFault};
-ghost use Rattle.fw_host.specs.Openings.{ArePartsOf, IsOpenIn, IsTakenBy, PartsRefused, RefusesOne, RefusesPart, campaign_in, listed_meters};
+ghost use Rattle.fw_host.specs.Openings.{ArePartsOf, IsOpenIn, IsTakenBy, OpensPart, PartsRefused, RefusesOne, RefusesPart, campaign_in, listed_meters};
 
 mod part;
 
@@ -194,6 +195,35 @@ pub fn open_part<D: JournalDevice>(
         Err(KeptError::Full) => Err(Fault::Full),
         Err(KeptError::BookFault) => Err(Fault::BookFault),
         Err(KeptError::OutOfMemory) => Err(Fault::OutOfMemory),
+    }
+}
+
+/// Opens a campaign of an opening, where the book hasn't it already, and returns the name of its image then. From `Ok` on it is on the device.
+///
+/// # Errors
+///
+/// Those of [`open_part`], if the book hasn't the campaign.
+pub fn open_missing<D: JournalDevice>(
+    alloc: Global,
+    kept: &mut KeptHead<D>,
+    part: &Part,
+    release: u32,
+    image: &[u8],
+) -> Result<Option<ImageName>, Fault>
+    ensures opened { IfOk result (λ name. OpensPart release image.now part.now (head_of kept.old) name (head_of kept.new)) }
+    ensures acknowledged { (synced : Contents) → Holds D.honest D.contents D.may_leave kept.old synced
+        → IfOk result (λ name. MatchOption name (kept.new ≡ kept.old) (λ _. Holds D.honest D.contents D.may_leave kept.new (book_of kept.new))) }
+    ensures same { OnErr result (head_of kept.new ≡ head_of kept.old) }
+    ensures refused { IfErr result (IsOpenFault (opening_refusal (book_of kept.old) (campaign_at (head_of kept.old) part.now.serial) image.now
+        part.now.meters.items)) }
+    ensures faults { IfErr result IsOfLeading }
+{
+    if is_open(kept.head().view().book, part, release, image) {
+        return Ok(None);
+    }
+    match open_part(alloc, kept, part, release, image) {
+        Ok(name) => Ok(Some(name)),
+        Err(fault) => Err(fault),
     }
 }
 

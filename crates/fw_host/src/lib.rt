@@ -14,11 +14,14 @@ mod head_lines;
 mod head_new_book;
 mod head_opening;
 mod head_port;
+mod head_port_calls;
 mod head_progress;
+mod lines;
 mod meter_lines;
 mod meter_list;
 mod meter_store;
 mod port_below;
+mod port_clock;
 mod recorder;
 mod strangers;
 
@@ -26,14 +29,15 @@ pub use capture_file::open_capture;
 pub use capture_port::CapturePort;
 pub use head_addresses::check_addresses;
 pub use head_book::{BookOptions, kept_head};
-pub use head_lines::{cancelled_line, opened_line, over_line, untaken_line};
+pub use head_lines::untaken_line;
 pub use head_new_book::check_absent;
 pub use head_opening::{
-    Opening, Part, cancel, check_cancel, check_parts, is_open, open_part, parts_of,
+    Opening, Part, cancel, check_cancel, check_parts, is_open, open_missing, open_part, parts_of,
 };
 pub use head_port::UdpHeadPort;
 pub use head_progress::HeadProgress;
-pub use meter_lines::{activated_line, dropped_line, listening_line};
+pub use lines::Lines;
+pub use meter_lines::listening_line;
 pub use meter_list::read_list;
 pub use meter_store::{NewMeter, NewStore, found_meter};
 pub use strangers::Strangers;

@@ -17,7 +17,7 @@ pub fn listening_line(alloc: Global, at: SocketAddr) -> Result<String, AllocErro
 }
 
 /// The line that tells which image the meter switched to.
-pub fn activated_line(alloc: Global, name: ImageName) -> Result<String, AllocError>
+pub(crate) fn activated_line(alloc: Global, name: ImageName) -> Result<String, AllocError>
     ensures { IfOk result (λ text. string_bytes text ≡ activated_line name) }
 {
     let (head, serial) = (head_number(name.campaign), name.campaign.serial());
@@ -27,7 +27,11 @@ pub fn activated_line(alloc: Global, name: ImageName) -> Result<String, AllocErr
 }
 
 /// The line that tells how many datagrams were dropped, and how often the socket failed.
-pub fn dropped_line(alloc: Global, dropped: Dropped, faults: u64) -> Result<String, AllocError>
+pub(crate) fn dropped_line(
+    alloc: Global,
+    dropped: Dropped,
+    faults: u64,
+) -> Result<String, AllocError>
     ensures { IfOk result (λ text. string_bytes text ≡ dropped_line dropped faults) }
 {
     let Dropped {

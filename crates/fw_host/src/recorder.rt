@@ -41,6 +41,8 @@ impl<'a, C: Clock, S: Sink + Drop> Recorder<'a, C, S> {
     ) -> Recorder<'a, C, S>
         ensures at { result.at ≡ at }
         ensures sink { result.sink ≡ sink }
+        ensures strangers { result.strangers.ghost_name ≡ strangers.entry.ghost_name }
+        ensures known { result.strangers.now ≡ strangers.old }
         ensures turns { result.has_turns ≡ has_turns }
         ensures failed { result.failed ≡ false }
     {

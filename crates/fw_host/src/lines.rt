@@ -1,0 +1,168 @@
+//! The lines of a daemon, once it has begun: one that can't be written is lost.
+
+ghost use Rattle.std.specs.Prelude.{
+  ◌≡◌,
+  ◌≤◌,
+  ◌∷◌,
+  ℕ,
+  [],
+  IfOk,
+  IfSome,
+  IsTrue,
+  List,
+  MatchOption,
+  false,
+  length,
+  string_bytes,
+  take,
+};
+ghost use Rattle.std.specs.Io.KnownBytes.{Appends, Keeps};
+ghost use Rattle.fw_host.specs.Heads.{cancelled_line, ended_line, opened_line, over_line};
+ghost use Rattle.fw_host.specs.Meters.{activated_line, dropped_line};
+ghost use Rattle.fw_host.specs.Telling.{AppendsFront, Told};
+
+use crate::head_lines::{cancelled_line, ended_line, opened_line, over_line};
+use crate::meter_lines::{activated_line, dropped_line};
+use fw_daemon::Dropped;
+use fw_names::{CampaignId, ImageName};
+use fw_rollout::{Counts, Ended};
+use std::alloc::{AllocError, Global};
+use std::io::{ErrorKind, Write};
+
+/// The most times that a writer is asked to take a line.
+const MAX_WRITES: u64 = 4_294_967_296;
+
+/// A writer of lines. Each is flushed. One that can't be written, or for which there is no memory, is lost: a front of it may be there.
+#[derive(Drop)]
+pub struct Lines<'a, W: Write> {
+    alloc: Global,
+    writer: &'a mut W,
+    /// Whether a line was lost.
+    lost: bool,
+}
+
+impl<'a, W: Write> Lines<'a, W> {
+    /// Nothing is written or lost yet.
+    pub fn new(alloc: Global, writer: &'a mut W) -> Lines<'a, W>
+        ensures writer { result.writer.ghost_name ≡ writer.entry.ghost_name }
+        ensures unwritten { W.contents result.writer.now ≡ W.contents writer.old }
+        ensures lost { result.lost ≡ false }
+    {
+        Lines {
+            alloc,
+            writer,
+            lost: false,
+        }
+    }
+
+    /// The line of a campaign that was opened.
+    pub fn tell_opened(&mut self, name: ImageName)
+        ensures writer { self.new.writer.ghost_name ≡ self.old.writer.ghost_name }
+        ensures told { Told (opened_line name ∷ []) self.old.lost self.new.lost (W.contents self.old.writer.now) (W.contents self.new.writer.now) }
+    {
+        let line = opened_line(self.alloc, name);
+        self.tell(line);
+    }
+
+    /// The line of a campaign that was cancelled.
+    pub fn tell_cancelled(&mut self, campaign: CampaignId)
+        ensures writer { self.new.writer.ghost_name ≡ self.old.writer.ghost_name }
+        ensures told { Told (cancelled_line campaign ∷ []) self.old.lost self.new.lost (W.contents self.old.writer.now)
+            (W.contents self.new.writer.now) }
+    {
+        let line = cancelled_line(self.alloc, campaign);
+        self.tell(line);
+    }
+
+    /// The line of a row that ended.
+    pub(crate) fn tell_ended(&mut self, ended: Ended)
+        ensures writer { self.new.writer.ghost_name ≡ self.old.writer.ghost_name }
+        ensures told { Told (ended_line ended ∷ []) self.old.lost self.new.lost (W.contents self.old.writer.now) (W.contents self.new.writer.now) }
+    {
+        let line = ended_line(self.alloc, ended);
+        self.tell(line);
+    }
+
+    /// The line at the end of the command `head`.
+    pub fn tell_over(&mut self, counts: Counts)
+        ensures writer { self.new.writer.ghost_name ≡ self.old.writer.ghost_name }
+        ensures told { Told (over_line counts ∷ []) self.old.lost self.new.lost (W.contents self.old.writer.now) (W.contents self.new.writer.now) }
+    {
+        let line = over_line(self.alloc, counts);
+        self.tell(line);
+    }
+
+    /// The line of an image that a meter switched to.
+    pub fn tell_activated(&mut self, name: ImageName)
+        ensures writer { self.new.writer.ghost_name ≡ self.old.writer.ghost_name }
+        ensures told { Told (activated_line name ∷ []) self.old.lost self.new.lost (W.contents self.old.writer.now) (W.contents self.new.writer.now) }
+    {
+        let line = activated_line(self.alloc, name);
+        self.tell(line);
+    }
+
+    /// The line of what was dropped.
+    pub fn tell_dropped(&mut self, dropped: Dropped, faults: u64)
+        ensures writer { self.new.writer.ghost_name ≡ self.old.writer.ghost_name }
+        ensures told { Told (dropped_line dropped faults ∷ []) self.old.lost self.new.lost (W.contents self.old.writer.now)
+            (W.contents self.new.writer.now) }
+    {
+        let line = dropped_line(self.alloc, dropped, faults);
+        self.tell(line);
+    }
+
+    /// This line, if there was memory for it.
+    fn tell(&mut self, line: Result<String, AllocError>)
+        ensures writer { self.new.writer.ghost_name ≡ self.old.writer.ghost_name }
+        ensures told { (bytes : List ℕ) → IfOk line (λ text. string_bytes text ≡ bytes)
+            → Told (bytes ∷ []) self.old.lost self.new.lost (W.contents self.old.writer.now) (W.contents self.new.writer.now) }
+    {
+        match line {
+            Ok(text) => self.put(text.as_bytes()),
+            Err(_) => self.lost = true,
+        }
+    }
+
+    /// The bytes of a line.
+    fn put(&mut self, bytes: &[u8])
+        ensures writer { self.new.writer.ghost_name ≡ self.old.writer.ghost_name }
+        ensures told { Told (bytes.now ∷ []) self.old.lost self.new.lost (W.contents self.old.writer.now) (W.contents self.new.writer.now) }
+    {
+        if write_whole(self.writer, bytes) {
+            return;
+        }
+        self.lost = true;
+    }
+}
+
+/// Writes all of these bytes, and flushes them. It returns whether that was done.
+fn write_whole<W: Write>(writer: &mut W, bytes: &[u8]) -> bool
+    ensures front { AppendsFront (W.contents writer.old) (W.contents writer.new) bytes.now }
+    ensures whole { IsTrue result → Appends (W.contents writer.old) (W.contents writer.new) bytes.now }
+{
+    let mut rest = bytes;
+    for _ in 0..MAX_WRITES {
+        if rest.is_empty() {
+            return writer.flush().is_ok();
+        }
+        match write_some(writer, rest) {
+            Some(count) => rest = &rest[count..],
+            None => return false,
+        }
+    }
+    false
+}
+
+/// Writes some of these bytes, of which there are some, and returns how many: none where the writer was interrupted. `None` where it failed.
+fn write_some<W: Write>(writer: &mut W, bytes: &[u8]) -> Option<usize>
+    ensures bound { IfSome result (λ count. count ≤ length bytes.now) }
+    ensures written { MatchOption result (Keeps (W.contents writer.old) (W.contents writer.new)) (λ count.
+        Appends (W.contents writer.old) (W.contents writer.new) (take count bytes.now)) }
+{
+    match writer.write(bytes) {
+        Ok(0) => None,
+        Ok(count) => Some(count),
+        Err(error) if error.kind() == ErrorKind::Interrupted => Some(0),
+        Err(_) => None,
+    }
+}
