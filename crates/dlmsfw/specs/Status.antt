@@ -1,5 +1,5 @@
 -- The exit statuses of the program: 0 where its work is done, 1 at a fault or a refused event, 2 at a wrong command line.
-use Rattle.std.specs.Prelude.{◌≡◌, ◌≢◌, ℕ, ◌⊎◌}
+use Rattle.std.specs.Prelude.{◌≡◌, ◌≢◌, ℕ, ◌⊎◌, Result, Ok, Err}
 use Rattle.clap.specs.declared.error.kind.ErrorKind.{ErrorKind}
 use Rattle.clap.specs.declared.error.kind.ErrorKind.TheVariants.{DisplayHelp, DisplayVersion, OutOfMemory}
 use Rattle.clap.specs.Values.{kind_of}
@@ -27,3 +27,8 @@ EndsWith (Book because places) status = status ≡ 1
 EndsWith Refused status = status ≡ 1
 EndsWith (CommandLine error) status = EndsParse (kind_of error) status
 EndsWith NoText status = status ≡ 2
+
+-- the status of what was done
+abbrev pub EndsAs : Result (Unit {0}) Ending → ℕ → Type 0
+EndsAs (Ok done) status = status ≡ 0
+EndsAs (Err ending) status = EndsWith ending status

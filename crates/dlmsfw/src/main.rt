@@ -1,13 +1,14 @@
 //! The program `dlmsfw`: its command line, its exit statuses, and the printing of its faults.
 #![tactic(auto)]
 
-ghost use Rattle.std.specs.Prelude.{◌≡◌, ◌⊎◌, IfErr, IsTrue, None, OnOk, is_some};
+ghost use Rattle.std.specs.Prelude.{◌≡◌, ◌⊎◌, IfErr, IsErr, IsTrue, None, OnOk, false, is_some};
 ghost use Rattle.std.specs.Io.KnownBytes.{Keeps};
 ghost use Rattle.std.specs.Process.{exit_status};
 ghost use Rattle.clap.specs.Values.{kind_of};
+ghost use Rattle.fw_cli.specs.Beginning.{HasLedOut};
 ghost use Rattle.fw_cli.specs.Faults.{ComesBeforeOutput, IsOfTrace};
 ghost use Rattle.fw_cli.specs.Tracing.{WritesTrace};
-ghost use Rattle.dlmsfw.specs.Status.{EndsParse, EndsWith};
+ghost use Rattle.dlmsfw.specs.Status.{EndsAs, EndsParse, EndsWith};
 
 mod cause;
 mod options;
@@ -78,7 +79,7 @@ fn main(rt: HostRuntime) -> ExitCode {
     let _closed = streams::stand_ins(&rt);
     let words = match words(&rt) {
         Ok(words) => words,
-        Err(ending) => return report(&rt, ending),
+        Err(ending) => return status_of(&rt, Err(ending)),
     };
     let stderr = rt.stderr();
     let terminal = if stderr.is_terminal() {
@@ -86,9 +87,16 @@ fn main(rt: HostRuntime) -> ExitCode {
     } else {
         None
     };
-    match run(&rt, terminal, &words) {
+    status_of(&rt, run(&rt, terminal, &words))
+}
+
+/// The exit status of what was done. Why the program ends before its work is done is printed.
+fn status_of(rt: &(impl Print + Eprint + Net + Files), done: Result<(), Ending<'_>>) -> ExitCode
+    ensures { EndsAs done.entry (exit_status result) }
+{
+    match done {
         Ok(()) => ExitCode::from(GOOD),
-        Err(ending) => report(&rt, ending),
+        Err(ending) => report(rt, ending),
     }
 }
 
@@ -269,7 +277,9 @@ fn trace_to_output<'a, R: AllocGlobal + Files<File = File> + Input + Print>(
 fn meter<'a, R: AllocGlobal + Files<File = File> + Clock + Print + Net + Wait>(
     rt: &R,
     options: MeterOptions<'a>,
-) -> Result<(), Ending<'a>> {
+) -> Result<(), Ending<'a>>
+    ensures ends { IsErr result }
+{
     let places = MeterPlaces::of(&options);
     let writer = &mut io::writer(rt);
     match run_meter(rt, rt.alloc(), writer, options) {
@@ -283,7 +293,10 @@ fn head<'a, R: AllocGlobal + Files<File = File> + Clock + Print + Eprint + Net +
     rt: &R,
     terminal: Option<&E>,
     options: &HeadOptions<'a>,
-) -> Result<(), Ending<'a>> {
+) -> Result<(), Ending<'a>>
+    ensures led { OnOk result (HasLedOut options.now) }
+    ensures stays { OnOk result (options.now.stays ≡ false) }
+{
     let writer = &mut io::writer(rt);
     match run_head(rt, rt.alloc(), writer, terminal, options) {
         Ok(()) => Ok(()),

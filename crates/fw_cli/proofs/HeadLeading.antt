@@ -88,12 +88,12 @@ pub record IsLater (options : HeadOptions) (f : Fault) : Type 0 where
   pub asked : IsAskedFor options f
   pub later : ¬ ComesBeforeLines f
 
-pub cancelling : (options : HeadOptions) (serial : ℕ) (f : Fault) → options.cancel ≡ Some serial → IsOfCancelling f → IsLater options f
-cancelling options serial (fault.CancelRefused refusal) e is = record { of_head = tt; asked = subst (λ (o : Option ℕ). IsTrue (is_some o)) (sym e) refl; later = λ h. h }
-cancelling options serial fault.BookFault e is = record { of_head = tt; asked = tt; later = λ h. h }
-cancelling options serial fault.Full e is = record { of_head = tt; asked = tt; later = λ h. h }
-cancelling options serial fault.OutOfMemory e is = record { of_head = tt; asked = tt; later = λ h. h }
-cancelling options serial f e is = absurd is
+pub cancelling : (options : HeadOptions) (f : Fault) → IsTrue (is_some options.cancel) → IsOfCancelling f → IsLater options f
+cancelling options (fault.CancelRefused refusal) e is = record { of_head = tt; asked = e; later = λ h. h }
+cancelling options fault.BookFault e is = record { of_head = tt; asked = tt; later = λ h. h }
+cancelling options fault.Full e is = record { of_head = tt; asked = tt; later = λ h. h }
+cancelling options fault.OutOfMemory e is = record { of_head = tt; asked = tt; later = λ h. h }
+cancelling options f e is = absurd is
 
 pub opening : (options : HeadOptions) (f : Fault) → IsTrue (is_some options.opening) → IsOfOpening f → IsLater options f
 opening options (fault.OpenRefused refusal) e is = record { of_head = tt; asked = e; later = λ h. h }

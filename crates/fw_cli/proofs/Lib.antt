@@ -8,4 +8,7 @@ pub mod Replayed
 pub mod Scripted
 pub mod Turns
 pub mod HeadLeading
+pub mod Begun
 pub mod Captured
+pub mod Sayings
+pub mod Fleeting

@@ -10,9 +10,11 @@ pub mod Replaying
 pub mod Rehearsing
 pub mod Scripts
 pub mod Heads
+pub mod Beginning
 pub mod Laws
 -- For private clauses alone: no public clause cites it.
 pub mod Private
 pub mod Fleets
 pub mod Judging
 pub mod Reasons
+pub mod Telling

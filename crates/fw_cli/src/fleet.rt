@@ -13,7 +13,9 @@ ghost use Rattle.std.specs.Prelude.{
   IfOk,
   IsErr,
   IsTrue,
+  OnErr,
   OnOk,
+  All,
   MatchOption,
   None,
   Some,
@@ -23,7 +25,9 @@ ghost use Rattle.std.specs.Io.KnownBytes.{Appends, Keeps};
 ghost use Rattle.std.specs.Net.Socket.{socket_port};
 ghost use Rattle.fw_store.specs.Setup.{IsSetup};
 ghost use Rattle.fw_store.specs.declared.version.HeaderVersion.TheVariants.{Two};
-ghost use Rattle.fw_cli.specs.Fleets.{IsAddressOf, port_of};
+ghost use Rattle.fw_daemon.specs.Daemon.{daemon_of};
+ghost use Rattle.fw_daemon.specs.Rounds.{GoesRound};
+ghost use Rattle.fw_cli.specs.Fleets.{AreWatched, HasHeads, IsAddressOf, TellsAll, daemons_of, path_of, port_of};
 ghost use Rattle.fw_cli.specs.Faults.{IsOfMeter, IsOfServing, NamesMeter};
 ghost use Rattle.fw_host.specs.Captures.{IsOfCapture};
 ghost use Rattle.fw_host.specs.Meters.{IsOfSetup, IsOfStore, default_factory, listening_line};
@@ -31,13 +35,13 @@ ghost use Rattle.fw_cli.specs.declared.fleet.Member.{Member};
 
 use crate::capture_file::{CaptureFile, closing, failure_of};
 use crate::judged::{Judge, Judged};
-use crate::meter::{Listening, MeterFault, MeterOptions, Teller, strangers_of};
+use crate::meter::{Listening, MeterFault, MeterOptions, Teller, heads_of, strangers_of};
 use fw_daemon::{Dropped, MeterDaemon, Watch, step};
 use fw_disk::Because;
 use fw_faults::{Fault, write_text};
-use fw_host::{CapturePort, Strangers, listening_line};
+use fw_host::{CapturePort, Lines, Strangers, listening_line};
 use fw_names::ImageName;
-use fw_port::{Port, UdpPort};
+use fw_port::{Closed, Port, UdpPort};
 use fw_store::FileStore;
 use std::alloc::{AllocError, Global};
 use std::fs::File;
@@ -66,9 +70,18 @@ struct Site {
     judged: Judged,
 }
 
-/// A port is closed. It is so since its capture couldn't be written, or since the socket failed.
-#[derive(Clone, Copy, Drop)]
-struct HasFailed(bool);
+/// What meters have in common, and what of their datagrams was dropped up to the last round.
+#[derive(Drop)]
+struct Common {
+    /// The strangers to each of them, who have one capture.
+    strangers: Strangers,
+    /// The file of that, where one is asked for.
+    capture: Option<CaptureFile>,
+    /// Whether a record couldn't be written in the last round of a meter.
+    has_failed: bool,
+    dropped: Dropped,
+    faults: u64,
+}
 
 impl Member {
     /// A round of the meter.
@@ -76,34 +89,50 @@ impl Member {
         &mut self,
         rt: &C,
         alloc: Global,
-        strangers: &mut Strangers,
-        capture: Option<&mut CaptureFile>,
-    ) -> Result<Option<ImageName>, HasFailed> {
+        common: &mut Common,
+    ) -> Result<Option<ImageName>, Closed>
+        ensures goes { IfOk result (λ activated. GoesRound (daemon_of self.old.daemon) activated (daemon_of self.new.daemon)) }
+        ensures closed { OnErr result (daemon_of self.new.daemon ≡ daemon_of self.old.daemon) }
+    {
         let mut port = CapturePort::of_meter(
             rt,
             alloc,
             &mut self.port,
             self.at,
-            strangers,
-            capture,
+            &mut common.strangers,
+            common.capture.as_mut(),
         );
-        match step(alloc, &mut port, &mut self.daemon) {
-            Ok(activated) if !port.has_failed() => Ok(activated),
-            _ => Err(HasFailed(port.has_failed())),
-        }
+        let stepped = step(alloc, &mut port, &mut self.daemon);
+        common.has_failed = port.has_failed();
+        stepped
     }
 }
 
-/// Meters, and what of their datagrams was dropped up to the last round.
+/// A round of each of these meters, as if it were alone.
+fn step_each<C: Clock, W: Watch>(
+    rt: &C,
+    alloc: Global,
+    members: &mut [Member],
+    common: &mut Common,
+    watch: &mut W,
+) -> Result<(), Closed>
+    ensures watched { AreWatched W.tells (daemons_of members.old) watch.old (daemons_of members.new) watch.new }
+{
+    for member in members.iter_mut() {
+        let activated = member.step(rt, alloc, common)?;
+        watch.round(activated, common.dropped, common.faults);
+        if common.has_failed {
+            return Err(Closed);
+        }
+    }
+    Ok(())
+}
+
+/// Meters in one process.
 #[derive(Drop)]
 struct Fleet {
     members: Vec<Member>,
-    /// The strangers to each of them, who have one capture.
-    strangers: Strangers,
-    /// The file of that, where one is asked for.
-    capture: Option<CaptureFile>,
-    dropped: Dropped,
-    faults: u64,
+    common: Common,
 }
 
 /// The command for several meters, of the numbers from 1 to this one. A datagram that comes to a meter is handled once those before it had
@@ -143,27 +172,33 @@ fn serve_members<R: Files<File = File> + Clock + Wait, W: Write>(
     file: Option<CaptureFile>,
     options: &MeterOptions<'_>,
 ) -> Result<(), Because<Fault>>
+    requires heads { All (HasHeads options.now.heads.items) members.items }
     ensures ends { IsErr result }
     ensures silent { IfErr result (λ b. b.error ≢ Fault.Socket → b.error ≢ Fault.Output → b.error ≢ Fault.CaptureFault
         → Keeps (W.contents writer.old) (W.contents writer.new)) }
     ensures asked { IfErr result (λ b. IsOfCapture b.error → IsTrue (is_some options.now.capture)) }
     ensures faults { IfErr result (λ b. IsOfServing b.error) }
 {
-    let mut fleet = Fleet {
-        members,
+    let common = Common {
         strangers: strangers_of(alloc, &options.heads, options.captures_strangers)?,
         capture: file,
+        has_failed: false,
         dropped: Dropped {
             strangers: 0,
             unserved: 0,
         },
         faults: 0,
     };
+    let mut fleet = Fleet { members, common };
     tell_members(alloc, writer, &fleet.members)?;
-    let mut teller = Teller::new(rt, alloc, writer);
-    let has_failed = fleet.serve(rt, alloc, &mut teller);
-    let cause = failure_of(fleet.capture.as_ref());
-    Err(closing(options.capture, has_failed, cause))
+    let mut lines = Lines::new(alloc, writer);
+    let Closed = fleet.serve_told(rt, alloc, &mut lines);
+    let Common {
+        has_failed,
+        capture,
+        ..
+    } = &fleet.common;
+    Err(closing(options.capture, *has_failed, failure_of(capture.as_ref())))
 }
 
 /// The ports of meters of the numbers from 1 to this one.
@@ -252,6 +287,7 @@ fn numbered_meter<F: Files<File = File>>(
 
 /// The path of the file of the meter of this number.
 fn numbered_path(alloc: Global, store: &str, number: u32) -> Result<String, Fault>
+    ensures path { IfOk result (λ path. string_bytes path ≡ path_of store.now number) }
     ensures faults { IfErr result (λ f. f ≡ Fault.OutOfMemory) }
 {
     Ok(format!(in alloc; "{store}.{number}")?)
@@ -267,6 +303,7 @@ fn members_of<F: Files<File = File>>(
 ) -> Result<Vec<Member>, MeterFault>
     requires { length sites.items ≡ count }
     ensures count { IfOk result (λ members. length members.items ≡ count) }
+    ensures heads { IfOk result (λ members. All (HasHeads options.now.heads.items) members.items) }
     ensures number { IfErr result (NamesMeter (Some count)) }
     ensures faults { IfErr result (λ e. (e.fault ≡ Fault.OutOfMemory) ⊎ IsOfStore e.fault) }
 {
@@ -294,6 +331,7 @@ fn new_member<F: Files<File = File>>(
     site: Site,
     number: u32,
 ) -> Result<Member, Because<Fault>>
+    ensures heads { IfOk result (HasHeads options.now.heads.items) }
     ensures faults { IfErr result (λ b. (b.error ≡ Fault.OutOfMemory) ⊎ IsOfStore b.error) }
 {
     let Site {
@@ -308,13 +346,6 @@ fn new_member<F: Files<File = File>>(
         at,
         daemon: MeterDaemon::new(meter, heads),
     })
-}
-
-/// The addresses that may ask a meter.
-fn heads_of(alloc: Global, options: &MeterOptions<'_>) -> Result<Vec<SocketAddr>, Fault>
-    ensures faults { IfErr result (λ f. f ≡ Fault.OutOfMemory) }
-{
-    Ok(Vec::from_slice(alloc, &options.heads)?)
 }
 
 /// The address that the meter of this number receives at, if there is such a port: as many ports after that of the first meter as there are
@@ -360,33 +391,70 @@ fn listening_lines(alloc: Global, members: &[Member]) -> Result<String, AllocErr
 }
 
 impl Fleet {
-    /// Rounds of all meters, until the port of one is closed. It returns whether that was since its capture couldn't be written.
-    fn serve<R: Clock + Wait, W: Watch>(&mut self, rt: &R, alloc: Global, watch: &mut W) -> bool {
+    /// Rounds of all meters, until the port of one is closed, and writes the lines of what there is to tell of them.
+    fn serve_told<R: Clock + Wait, W: Write>(
+        &mut self,
+        rt: &R,
+        alloc: Global,
+        lines: &mut Lines<'_, W>,
+    ) -> Closed {
+        let mut teller = Teller::new(rt, lines);
+        self.serve_watched(rt, alloc, &mut teller)
+    }
+
+    /// The same, told by this teller: each image that one of them switches to, once and in order.
+    fn serve_watched<R: Clock + Wait, W: Write>(
+        &mut self,
+        rt: &R,
+        alloc: Global,
+        teller: &mut Teller<'_, '_, R, W>,
+    ) -> Closed
+        ensures lines { teller.new.lines.ghost_name ≡ teller.old.lines.ghost_name }
+        ensures writer { teller.new.lines.now.writer.ghost_name ≡ teller.old.lines.now.writer.ghost_name }
+        ensures told { TellsAll (daemons_of self.old.members.items) (daemons_of self.new.members.items) teller.old.lines.now.lost
+            teller.new.lines.now.lost (W.contents teller.old.lines.now.writer.now) (W.contents teller.new.lines.now.writer.now) }
+    {
+        self.serve(rt, alloc, teller)
+    }
+
+    /// Rounds of all meters, until the port of one is closed.
+    fn serve<R: Clock + Wait, W: Watch>(&mut self, rt: &R, alloc: Global, watch: &mut W) -> Closed
+        ensures watched { AreWatched W.tells (daemons_of self.old.members.items) watch.old (daemons_of self.new.members.items) watch.new }
+    {
         for _ in rt.forever() {
-            if let Err(HasFailed(has_failed)) = self.round(rt, alloc, watch) {
-                return has_failed;
+            match self.round(rt, alloc, watch) {
+                Ok(()) => thread::sleep(rt, Duration::from_micros(PAUSE)),
+                Err(closed) => return closed,
             }
-            thread::sleep(rt, Duration::from_micros(PAUSE));
         }
         unreachable!()
     }
 
-    /// A round of each meter, as if it were alone.
+    /// A round of each meter.
     fn round<C: Clock, W: Watch>(
         &mut self,
         rt: &C,
         alloc: Global,
         watch: &mut W,
-    ) -> Result<(), HasFailed> {
+    ) -> Result<(), Closed>
+        ensures watched { AreWatched W.tells (daemons_of self.old.members.items) watch.old (daemons_of self.new.members.items) watch.new }
+    {
+        let members = self.members.as_mut_slice();
+        step_each(rt, alloc, members, &mut self.common, watch)?;
+        self.count();
+        Ok(())
+    }
+
+    /// Counts what was dropped up to now.
+    fn count(&mut self)
+        ensures { self.new.members ≡ self.old.members }
+    {
         let mut dropped = Dropped {
             strangers: 0,
             unserved: 0,
         };
         let mut faults: u64 = 0;
-        for member in &mut self.members {
-            let capture = self.capture.as_mut();
-            let activated = member.step(rt, alloc, &mut self.strangers, capture)?;
-            watch.round(activated, self.dropped, self.faults);
+        for member in &self.members {
             let Dropped {
                 strangers,
                 unserved,
@@ -395,8 +463,7 @@ impl Fleet {
             dropped.unserved = dropped.unserved.saturating_add(unserved);
             faults = faults.saturating_add(member.port.faults());
         }
-        self.dropped = dropped;
-        self.faults = faults;
-        Ok(())
+        self.common.dropped = dropped;
+        self.common.faults = faults;
     }
 }

@@ -1,35 +1,43 @@
 //! The command `head`: a head end whose book is in a file leads meters over UDP to the images that they are offered.
 
-ghost use Rattle.std.specs.Prelude.{◌≡◌, ◌≢◌, ◌⊎◌, All, IfErr, IfOk, IsTrue, OnOk, false, is_some};
+ghost use Rattle.std.specs.Prelude.{◌≡◌, ◌≢◌, ◌⊎◌, [], ℕ, List, Option, All, IfErr, IfOk, IsTrue, OnErr, OnOk, false, is_some};
 ghost use Rattle.std.specs.Io.KnownBytes.{Keeps};
 ghost use Rattle.std.specs.Map.{values_of};
+ghost use Rattle.fw_head.specs.Head.{BeginsWith, cancelled_head};
+ghost use Rattle.fw_names.specs.Name.{Name};
 ghost use Rattle.fw_journal.specs.File.{cause_of};
 ghost use Rattle.fw_kept.specs.Head.{book_of, head_of};
-ghost use Rattle.fw_rollout.specs.Daemon.{IsLed, IsOver};
+ghost use Rattle.fw_rollout.specs.Counting.{counted_of};
+ghost use Rattle.fw_rollout.specs.Daemon.{HasRunOut, IsLed, IsOver, timing_of};
 ghost use Rattle.fw_rollout.specs.Leading.{Leader};
 ghost use Rattle.fw_host.specs.Addresses.{HasAddress};
 ghost use Rattle.fw_host.specs.Captures.{IsOfCapture};
 ghost use Rattle.fw_host.specs.Heads.{ComesBeforeLines, IsOfHead, IsOfHeadSetup, IsOfLeading};
+ghost use Rattle.fw_host.specs.Lists.{SpellsList};
+ghost use Rattle.fw_host.specs.Openings.{ArePartsOf, OpensPart, OpensParts, listed_meters};
 ghost use Rattle.fw_book.specs.Changes.{empty_book};
+ghost use Rattle.fw_cli.specs.Beginning.{Begins, HasLedOut, IsDaemonOf, IsOpeningOf, cancelled_first};
 ghost use Rattle.fw_cli.specs.Judging.{IsJudged};
 ghost use Rattle.fw_cli.specs.Heads.{IsAskedFor, IsOfCancelling, IsOfList, IsOfOpening, IsOfOpeningSetup, IsOfStop};
 ghost use Rattle.fw_cli.specs.Reasons.{reason_of};
+ghost use Rattle.fw_cli.specs.Telling.{TellsChanges, TellsEnded};
 
 use crate::capture_file::{CaptureFile, closing, failure_of, reason_of};
 use crate::meter::{Listening, RecordedPort, tell_listening};
 use fw_blocks::Width;
 use fw_book::{Book, BookError};
 use fw_disk::Because;
-use fw_faults::{Fault, Reads, read_input, write_text};
+use fw_faults::{Fault, Reads, read_input};
 use fw_host::{
-    BookOptions, CapturePort, HeadProgress, Opening, Part, Strangers, UdpHeadPort, cancel,
-    cancelled_line, check_absent, check_addresses, check_cancel, check_parts, is_open, kept_head,
-    open_part, opened_line, over_line, parts_of, read_list,
+    BookOptions, CapturePort, HeadProgress, Lines, Opening, Part, Strangers, UdpHeadPort, cancel,
+    check_absent, check_addresses, check_cancel, check_parts, kept_head, open_missing, parts_of,
+    read_list,
 };
 use fw_journal::{FileDevice, JournalDevice};
 use fw_kept::KeptHead;
 use fw_names::{CampaignId, HeadId};
 use fw_port::UdpPort;
+use fw_recording::Sink;
 use fw_rollout::{HeadDaemon, Listed, MeterList, Stop, Timing, serve_head};
 use std::alloc::Global;
 use std::fs::File;
@@ -110,6 +118,9 @@ pub fn run_head<R: Files<File = File> + Clock + Eprint + Net + Wait, W: Write, E
     terminal: Option<&E>,
     options: &HeadOptions<'_>,
 ) -> Result<(), Because<Fault>>
+    // Where it ends well, it did what the options ask for, and the rows of the head end that it led have ended.
+    ensures led { OnOk result (HasLedOut options.now) }
+
     // Where it stays, it ends by a fault alone.
     ensures stays { OnOk result (options.now.stays ≡ false) }
     ensures silent { IfErr result (λ b. ComesBeforeLines b.error → Keeps (W.contents writer.old) (W.contents writer.new)) }
@@ -125,7 +136,8 @@ pub fn run_head<R: Files<File = File> + Clock + Eprint + Net + Wait, W: Write, E
     } = set_up(rt, alloc, options)?;
     let strangers = strangers_of(alloc, options, asked.list.meters())?;
     tell_listening(alloc, writer, at)?;
-    begin(alloc, writer, &mut kept, asked.opened.take(), options)?;
+    let mut lines = Lines::new(alloc, writer);
+    begin(alloc, &mut lines, &mut kept, asked.opened.take(), options)?;
     let mut daemon = daemon_of(alloc, kept, &asked.list, options)?;
     let port = RecordedPort {
         port,
@@ -134,27 +146,20 @@ pub fn run_head<R: Files<File = File> + Clock + Eprint + Net + Wait, W: Write, E
         file,
         capture: options.capture,
     };
-    match lead(
-        rt,
-        alloc,
-        writer,
-        terminal,
-        port,
-        &mut daemon,
-        options.stays,
-    ) {
+    match lead(rt, alloc, &mut lines, terminal, port, &mut daemon, options) {
         Ok(()) => Ok(()),
         Err(because) => Err(of_book(because, daemon.device())),
     }
 }
 
-/// The daemon of a head end that asks the meters of this list.
+/// The daemon of a head end that asks the meters of this list, as the options say.
 fn daemon_of(
     alloc: Global,
     kept: KeptHead<FileDevice>,
     list: &MeterList,
     options: &HeadOptions<'_>,
 ) -> Result<HeadDaemon<FileDevice>, Fault>
+    ensures made { IfOk result (IsDaemonOf kept list.now options.now.timing) }
     ensures faults { IfErr result (λ f. f ≡ Fault.OutOfMemory) }
 {
     Ok(HeadDaemon::new(alloc, kept, list, options.timing)?)
@@ -229,8 +234,11 @@ fn set_up<R: Files<File = File> + Clock + Eprint + Net>(
     alloc: Global,
     options: &HeadOptions<'_>,
 ) -> Result<Ready, Because<Fault>>
+    ensures list { IfOk result (λ ready. (text : List ℕ) × SpellsList text ready.asked.list) }
+    ensures opening { IfOk result (λ ready. IsOpeningOf options.now.opening ready.asked.list ready.asked.opened) }
     ensures opened { IfOk result (λ ready. IsTrue (is_some ready.asked.opened) → IsTrue (is_some options.now.opening)) }
     ensures number { IfOk result (λ ready. (book_of ready.kept).head ≡ options.now.head) }
+    ensures width { IfOk result (λ ready. BeginsWith (book_of ready.kept) options.now.width (head_of ready.kept)) }
     ensures addresses { IfOk result (λ ready. All (HasAddress options.now.cancel ready.asked.list) (values_of (head_of ready.kept).rows)) }
     ensures asked { IfErr result (λ b. IsAskedFor options.now b.error) }
     ensures faults { IfErr result (λ b. IsOfHeadSetup b.error) }
@@ -253,6 +261,8 @@ fn asked_of<F: Files<File = File> + Net>(
     alloc: Global,
     options: &HeadOptions<'_>,
 ) -> Result<Asked, Fault>
+    ensures list { IfOk result (λ asked. (text : List ℕ) × SpellsList text asked.list) }
+    ensures opening { IfOk result (λ asked. IsOpeningOf options.now.opening asked.list asked.opened) }
     ensures opened { IfOk result (λ asked. IsTrue (is_some asked.opened) → IsTrue (is_some options.now.opening)) }
     ensures asked { IfErr result (IsAskedFor options.now) }
     ensures faults { IfErr result IsOfHeadSetup }
@@ -284,6 +294,7 @@ fn led_head<R: Files<File = File> + Clock + Eprint>(
 ) -> Result<Led, Because<Fault>>
     requires opened { IsTrue (is_some asked.now.opened) → IsTrue (is_some options.now.opening) }
     ensures number { IfOk result (λ led. (book_of led.kept).head ≡ options.now.head) }
+    ensures width { IfOk result (λ led. BeginsWith (book_of led.kept) options.now.width (head_of led.kept)) }
     ensures addresses { IfOk result (λ led. All (HasAddress options.now.cancel asked.now.list) (values_of (head_of led.kept).rows)) }
     ensures asked { IfErr result (λ b. IsAskedFor options.now b.error) }
     ensures faults { IfErr result (λ b. IsOfHeadSetup b.error) }
@@ -304,6 +315,7 @@ fn old_head<R: Files<File = File> + Clock + Eprint>(
 ) -> Result<Led, Because<Fault>>
     requires opened { IsTrue (is_some asked.now.opened) → IsTrue (is_some options.now.opening) }
     ensures number { IfOk result (λ led. (book_of led.kept).head ≡ options.now.head) }
+    ensures width { IfOk result (λ led. BeginsWith (book_of led.kept) options.now.width (head_of led.kept)) }
     ensures addresses { IfOk result (λ led. All (HasAddress options.now.cancel asked.now.list) (values_of (head_of led.kept).rows)) }
     ensures asked { IfErr result (λ b. IsAskedFor options.now b.error) }
     ensures faults { IfErr result (λ b. IsOfHeadSetup b.error) }
@@ -325,6 +337,7 @@ fn new_head<R: Files<File = File> + Clock + Eprint>(
     requires is_new { IsTrue options.now.book.is_new }
     requires opened { IsTrue (is_some asked.now.opened) → IsTrue (is_some options.now.opening) }
     ensures number { IfOk result (λ led. (book_of led.kept).head ≡ options.now.head) }
+    ensures width { IfOk result (λ led. BeginsWith (book_of led.kept) options.now.width (head_of led.kept)) }
     ensures addresses { IfOk result (λ led. All (HasAddress options.now.cancel asked.now.list) (values_of (head_of led.kept).rows)) }
     ensures asked { IfErr result (λ b. IsAskedFor options.now b.error) }
     ensures faults { IfErr result (λ b. IsOfHeadSetup b.error) }
@@ -344,6 +357,7 @@ fn made_head<R: Files<File = File> + Clock + Eprint>(
     requires is_new { IsTrue options.now.book.is_new }
     requires judged { IsJudged (empty_book options.now.head) options.now asked.now }
     ensures number { IfOk result (λ led. (book_of led.kept).head ≡ options.now.head) }
+    ensures width { IfOk result (λ led. BeginsWith (book_of led.kept) options.now.width (head_of led.kept)) }
     ensures addresses { IfOk result (λ led. All (HasAddress options.now.cancel asked.now.list) (values_of (head_of led.kept).rows)) }
     ensures asked { IfErr result (λ b. IsAskedFor options.now b.error) }
     ensures faults { IfErr result (λ b. IsOfHeadSetup b.error) }
@@ -375,6 +389,7 @@ fn list_of_file<F: Files<File = File> + Net>(
     path: &str,
     own: SocketAddr,
 ) -> Result<MeterList, Fault>
+    ensures list { IfOk result (λ list. (text : List ℕ) × SpellsList text list) }
     ensures faults { IfErr result IsOfList }
 {
     let text = bytes_of_file(rt, alloc, path, Fault::ListFault, Fault::ListFault)?;
@@ -388,6 +403,8 @@ fn opened_of<F: Files<File = File>>(
     opening: Opening<'_>,
     list: &[Listed],
 ) -> Result<Opened, Fault>
+    ensures parts { IfOk result (λ opened. ArePartsOf opening.entry.serial (listed_meters list.now) opened.parts.items) }
+    ensures release { IfOk result (λ opened. opened.release ≡ opening.entry.release) }
     ensures faults { IfErr result IsOfOpeningSetup }
 {
     let parts = parts_of(alloc, opening.serial, list)?;
@@ -430,16 +447,20 @@ fn bytes_of_file<F: Files<File = File>>(
 /// Cancels the campaign that is to be cancelled first, and opens those that are opened then. A fault of the book has the cause of its device.
 fn begin<W: Write>(
     alloc: Global,
-    writer: &mut W,
+    lines: &mut Lines<'_, W>,
     kept: &mut KeptHead<FileDevice>,
     opened: Option<Opened>,
     options: &HeadOptions<'_>,
 ) -> Result<(), Because<Fault>>
+    ensures begins { OnOk result (Begins options.now.cancel opened (head_of kept.old) (head_of kept.new)) }
+    ensures writer { lines.new.writer.ghost_name ≡ lines.old.writer.ghost_name }
+    ensures told { TellsChanges (head_of kept.old) (head_of kept.new) lines.old.lost lines.new.lost (W.contents lines.old.writer.now)
+        (W.contents lines.new.writer.now) }
     ensures asked { (IsTrue (is_some opened) → IsTrue (is_some options.now.opening))
         → IfErr result (λ b. IsAskedFor options.now b.error) }
     ensures faults { IfErr result (λ b. IsOfLeading b.error) }
 {
-    match cancel_and_open(alloc, writer, kept, opened, options) {
+    match cancel_and_open(alloc, lines, kept, opened, options) {
         Ok(()) => Ok(()),
         Err(fault) => Err(of_book(Because::from(fault), kept.device())),
     }
@@ -448,50 +469,78 @@ fn begin<W: Write>(
 /// Cancels the campaign that is to be cancelled first, and opens those that are opened then.
 fn cancel_and_open<W: Write>(
     alloc: Global,
-    writer: &mut W,
+    lines: &mut Lines<'_, W>,
     kept: &mut KeptHead<FileDevice>,
     opened: Option<Opened>,
     options: &HeadOptions<'_>,
 ) -> Result<(), Fault>
+    ensures begins { OnOk result (Begins options.now.cancel opened (head_of kept.old) (head_of kept.new)) }
+    ensures writer { lines.new.writer.ghost_name ≡ lines.old.writer.ghost_name }
+    ensures told { TellsChanges (head_of kept.old) (head_of kept.new) lines.old.lost lines.new.lost (W.contents lines.old.writer.now)
+        (W.contents lines.new.writer.now) }
     ensures asked { (IsTrue (is_some opened) → IsTrue (is_some options.now.opening)) → IfErr result (IsAskedFor options.now) }
     ensures faults { IfErr result IsOfLeading }
 {
-    if let Some(serial) = options.cancel {
-        cancel_one(alloc, writer, kept, options.head, serial)?;
+    cancel_first(alloc, lines, kept, options)?;
+    match opened {
+        Some(opened) => open_all(alloc, lines, kept, &opened),
+        None => Ok(()),
     }
-    if let Some(opened) = opened {
-        open_all(alloc, writer, kept, &opened)?;
-    }
-    Ok(())
 }
 
-/// Cancels the campaign of this serial number, and writes a line.
-fn cancel_one<W: Write>(
+/// Cancels the campaign that is to be cancelled first, if one is.
+fn cancel_first<W: Write>(
     alloc: Global,
-    writer: &mut W,
+    lines: &mut Lines<'_, W>,
     kept: &mut KeptHead<FileDevice>,
-    head: HeadId,
-    serial: u32,
+    options: &HeadOptions<'_>,
 ) -> Result<(), Fault>
+    ensures cancelled { OnOk result (head_of kept.new ≡ cancelled_first options.now.cancel (head_of kept.old)) }
+    ensures writer { lines.new.writer.ghost_name ≡ lines.old.writer.ghost_name }
+    ensures told { TellsChanges (head_of kept.old) (head_of kept.new) lines.old.lost lines.new.lost (W.contents lines.old.writer.now)
+        (W.contents lines.new.writer.now) }
+    ensures asked { OnErr result (IsTrue (is_some options.now.cancel)) }
     ensures faults { IfErr result IsOfCancelling }
 {
-    cancel(kept, alloc, serial)?;
-    let Some(campaign) = CampaignId::new(head, serial) else {
-        return Ok(());
-    };
-    if let Ok(line) = cancelled_line(alloc, campaign) {
-        let _lost = write_text(writer, line.as_str());
+    match options.cancel {
+        Some(serial) => cancel_one(alloc, lines, kept, serial),
+        None => Ok(()),
     }
+}
+
+/// Cancels the campaign of this serial number, and writes its line once that is on the device.
+fn cancel_one<W: Write>(
+    alloc: Global,
+    lines: &mut Lines<'_, W>,
+    kept: &mut KeptHead<FileDevice>,
+    serial: u32,
+) -> Result<(), Fault>
+    ensures cancelled { OnOk result (head_of kept.new ≡ cancelled_head (head_of kept.old) serial) }
+    ensures writer { lines.new.writer.ghost_name ≡ lines.old.writer.ghost_name }
+    ensures told { TellsChanges (head_of kept.old) (head_of kept.new) lines.old.lost lines.new.lost (W.contents lines.old.writer.now)
+        (W.contents lines.new.writer.now) }
+    ensures faults { IfErr result IsOfCancelling }
+{
+    let campaign = CampaignId::new(kept.head().view().book.head(), serial);
+    cancel(kept, alloc, serial)?;
+    let Some(campaign) = campaign else {
+        unreachable!();
+    };
+    lines.tell_cancelled(campaign);
     Ok(())
 }
 
 /// Opens the campaigns that the book lacks, once it is known that it takes each of them, and writes a line for each.
 fn open_all<W: Write>(
     alloc: Global,
-    writer: &mut W,
+    lines: &mut Lines<'_, W>,
     kept: &mut KeptHead<FileDevice>,
     opened: &Opened,
 ) -> Result<(), Fault>
+    ensures opened { OnOk result (OpensParts opened.now.release opened.now.image.items opened.now.parts.items (head_of kept.old) (head_of kept.new)) }
+    ensures writer { lines.new.writer.ghost_name ≡ lines.old.writer.ghost_name }
+    ensures told { TellsChanges (head_of kept.old) (head_of kept.new) lines.old.lost lines.new.lost (W.contents lines.old.writer.now)
+        (W.contents lines.new.writer.now) }
     ensures faults { IfErr result IsOfOpening }
 {
     let Opened {
@@ -500,14 +549,49 @@ fn open_all<W: Write>(
         image,
     } = opened;
     check_parts(kept.head().view().book, parts, *release, image)?;
+    open_parts(alloc, lines, kept, parts, *release, image)
+}
+
+/// Opens those of these campaigns that the book lacks, in their order.
+fn open_parts<W: Write>(
+    alloc: Global,
+    lines: &mut Lines<'_, W>,
+    kept: &mut KeptHead<FileDevice>,
+    parts: &[Part],
+    release: u32,
+    image: &[u8],
+) -> Result<(), Fault>
+    ensures opened { OnOk result (OpensParts release image.now parts.now (head_of kept.old) (head_of kept.new)) }
+    ensures writer { lines.new.writer.ghost_name ≡ lines.old.writer.ghost_name }
+    ensures told { TellsChanges (head_of kept.old) (head_of kept.new) lines.old.lost lines.new.lost (W.contents lines.old.writer.now)
+        (W.contents lines.new.writer.now) }
+    ensures faults { IfErr result IsOfOpening }
+{
     for part in parts {
-        if !is_open(kept.head().view().book, part, *release, image) {
-            let name = open_part(alloc, kept, part, *release, image)?;
-            if let Ok(line) = opened_line(alloc, name) {
-                let _lost = write_text(writer, line.as_str());
-            }
-        }
+        open_one(alloc, lines, kept, part, release, image)?;
     }
+    Ok(())
+}
+
+/// Opens this campaign, if the book lacks it, and writes its line once that is on the device.
+fn open_one<W: Write>(
+    alloc: Global,
+    lines: &mut Lines<'_, W>,
+    kept: &mut KeptHead<FileDevice>,
+    part: &Part,
+    release: u32,
+    image: &[u8],
+) -> Result<(), Fault>
+    ensures opened { OnOk result ((name : Option Name) × OpensPart release image.now part.now (head_of kept.old) name (head_of kept.new)) }
+    ensures writer { lines.new.writer.ghost_name ≡ lines.old.writer.ghost_name }
+    ensures told { TellsChanges (head_of kept.old) (head_of kept.new) lines.old.lost lines.new.lost (W.contents lines.old.writer.now)
+        (W.contents lines.new.writer.now) }
+    ensures faults { IfErr result IsOfOpening }
+{
+    let Some(name) = open_missing(alloc, kept, part, release, image)? else {
+        return Ok(());
+    };
+    lines.tell_opened(name);
     Ok(())
 }
 
@@ -516,14 +600,17 @@ fn open_all<W: Write>(
 fn lead<R: Clock + Wait, W: Write, E: Eprint, D: JournalDevice + Drop>(
     rt: &R,
     alloc: Global,
-    writer: &mut W,
+    lines: &mut Lines<'_, W>,
     terminal: Option<&E>,
     port: RecordedPort<'_>,
     daemon: &mut HeadDaemon<D>,
-    stays: bool,
+    options: &HeadOptions<'_>,
 ) -> Result<(), Because<Fault>>
+    // It waits for answers, and has as many datagrams out, as the options say.
+    requires waits { timing_of daemon.old ≡ options.now.timing }
     ensures over { (now : Leader) → IsLed D.honest D.contents D.may_leave daemon.new now → OnOk result (IsOver now) }
-    ensures stays { OnOk result (stays ≡ false) }
+    ensures ran_out { OnOk result (HasRunOut daemon.new) }
+    ensures stays { OnOk result (options.now.stays ≡ false) }
     ensures asked { IfErr result (λ b. IsOfCapture b.error → IsTrue (is_some port.entry.capture)) }
     ensures faults { IfErr result (λ b. IsOfStop b.error) }
 {
@@ -536,9 +623,9 @@ fn lead<R: Clock + Wait, W: Write, E: Eprint, D: JournalDevice + Drop>(
     } = port;
     let recorder = file.as_mut();
     let recorded = CapturePort::of_head(rt, alloc, &mut socket, at, &mut strangers, recorder);
-    let mut port = UdpHeadPort::new(rt, alloc, recorded, writer);
+    let mut port = UdpHeadPort::new(rt, recorded, lines);
     let mut progress = HeadProgress::new(terminal);
-    let led = serve_head(rt, &mut port, daemon, stays, &mut progress);
+    let led = lead_told(rt, &mut port, daemon, options.stays, &mut progress);
     drop(progress);
     let has_failed = port.has_failed();
     drop(port);
@@ -547,8 +634,25 @@ fn lead<R: Clock + Wait, W: Write, E: Eprint, D: JournalDevice + Drop>(
         Err(Stop::Closed) => return Err(closing(capture, has_failed, failure_of(file.as_ref()))),
         Err(stop) => return Err(Because::from(Fault::from(stop))),
     }
-    if let Ok(line) = over_line(alloc, daemon.counts()) {
-        let _lost = write_text(writer, line.as_str());
-    }
+    lines.tell_over(daemon.counts());
     Ok(())
+}
+
+/// Leads the rows to their ends over this port, and writes the line of each row that ended, once and in order. It returns as `serve_head` does.
+fn lead_told<R: Clock + Wait, W: Write, V: Sink + Drop, E: Eprint, D: JournalDevice + Drop>(
+    rt: &R,
+    port: &mut UdpHeadPort<'_, '_, R, W, V>,
+    daemon: &mut HeadDaemon<D>,
+    stays: bool,
+    progress: &mut HeadProgress<'_, E>,
+) -> Result<(), Stop>
+    ensures over { (now : Leader) → IsLed D.honest D.contents D.may_leave daemon.new now → OnOk result (IsOver now) }
+    ensures ran_out { OnOk result (HasRunOut daemon.new) }
+    ensures stays { OnOk result (stays ≡ false) }
+    ensures lines { port.new.lines.ghost_name ≡ port.old.lines.ghost_name }
+    ensures writer { port.new.lines.now.writer.ghost_name ≡ port.old.lines.now.writer.ghost_name }
+    ensures told { TellsEnded (counted_of daemon.old) (counted_of daemon.new) [] port.old.lines.now.lost port.new.lines.now.lost
+        (W.contents port.old.lines.now.writer.now) (W.contents port.new.lines.now.writer.now) }
+{
+    serve_head(rt, port, daemon, stays, progress)
 }

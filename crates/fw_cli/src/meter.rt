@@ -1,12 +1,17 @@
 //! The command `meter`: a meter in a file answers datagrams over UDP until it is ended.
 
-ghost use Rattle.std.specs.Prelude.{◌≡◌, ◌≢◌, ◌⊎◌, None, Some, IfErr, IsErr, IsTrue, OnOk, is_some};
+ghost use Rattle.std.specs.Prelude.{◌≡◌, ◌≢◌, ◌⊎◌, Bool, None, Some, IfErr, IfOk, IsErr, IsTrue, OnOk, is_some};
 ghost use Rattle.std.specs.Io.KnownBytes.{Appends, Keeps};
+ghost use Rattle.std.specs.declared.net.socket_addr.SocketAddr.{SocketAddr as Address};
+ghost use Rattle.fw_daemon.specs.Daemon.{daemon_of};
 ghost use Rattle.fw_store.specs.Setup.{IsSetup};
 ghost use Rattle.fw_store.specs.declared.version.HeaderVersion.TheVariants.{Two};
 ghost use Rattle.fw_cli.specs.Faults.{IsOfMeter, IsOfServing, NamesMeter};
 ghost use Rattle.fw_host.specs.Captures.{IsOfCapture};
 ghost use Rattle.fw_host.specs.Meters.{activated_line, default_factory, dropped_line, listening_line};
+ghost use Rattle.fw_host.specs.Strangers.{is_strange, is_stranger};
+ghost use Rattle.fw_host.specs.Telling.{Told};
+ghost use Rattle.fw_cli.specs.Telling.{TellsRounds, lack_of, lines_of, said_of};
 
 use crate::capture_file::{CaptureFile, closing, failure_of};
 use crate::fleet::serve_fleet;
@@ -14,9 +19,10 @@ use crate::judged::Judge;
 use fw_daemon::{Dropped, MeterDaemon, Watch, serve};
 use fw_disk::{Because, Reason};
 use fw_faults::{Fault, write_text};
-use fw_host::{CapturePort, NewMeter, Strangers, activated_line, dropped_line, listening_line};
+use fw_host::{CapturePort, Lines, NewMeter, Strangers, listening_line};
 use fw_names::ImageName;
 use fw_port::{Closed, SocketError, UdpPort};
+use fw_recording::Sink;
 use fw_store::FileStore;
 use std::alloc::Global;
 use std::fs::File;
@@ -148,7 +154,7 @@ pub fn run_meter<R: Files<File = File> + Clock + Net + Wait, W: Write>(
 {
     match options.count {
         Some(count) => serve_fleet(rt, alloc, writer, &options, count),
-        None => match serve_one(rt, alloc, writer, options) {
+        None => match serve_one(rt, alloc, writer, &options) {
             Ok(()) => Ok(()),
             Err(because) => Err(MeterFault::from(because)),
         },
@@ -160,22 +166,23 @@ fn serve_one<R: Files<File = File> + Clock + Net + Wait, W: Write>(
     rt: &R,
     alloc: Global,
     writer: &mut W,
-    options: MeterOptions<'_>,
+    options: &MeterOptions<'_>,
 ) -> Result<(), Because<Fault>>
     ensures ends { IsErr result }
-    ensures bad_setup { options.entry.fresh.factory_file ≡ None → IfErr result (λ b. b.error ≡ Fault.BadSetup
-        → ¬ IsSetup Two options.entry.fresh.block_size options.entry.fresh.capacity default_factory) }
+    ensures bad_setup { options.now.fresh.factory_file ≡ None → IfErr result (λ b. b.error ≡ Fault.BadSetup
+        → ¬ IsSetup Two options.now.fresh.block_size options.now.fresh.capacity default_factory) }
     ensures silent { IfErr result (λ b. b.error ≢ Fault.Socket → b.error ≢ Fault.Output → b.error ≢ Fault.CaptureFault
         → Keeps (W.contents writer.old) (W.contents writer.new)) }
-    ensures asked { IfErr result (λ b. IsOfCapture b.error → IsTrue (is_some options.entry.capture)) }
+    ensures asked { IfErr result (λ b. IsOfCapture b.error → IsTrue (is_some options.now.capture)) }
     ensures faults { IfErr result (λ b. IsOfMeter b.error) }
 {
     let Listening { port, at } = Listening::of(UdpPort::bind(rt, options.listen))?;
     let judged = Judge::of(options.fresh).meter(rt, alloc, options.store)?;
     let strangers = strangers_of(alloc, &options.heads, options.captures_strangers)?;
+    let heads = heads_of(alloc, options)?;
     let file = CaptureFile::opened(rt, alloc, options.capture)?;
     let meter = judged.made(rt, options.store)?;
-    let mut daemon = MeterDaemon::new(meter, options.heads);
+    let mut daemon = MeterDaemon::new(meter, heads);
     serve_daemon(
         rt,
         alloc,
@@ -188,7 +195,16 @@ fn serve_one<R: Files<File = File> + Clock + Net + Wait, W: Write>(
             capture: options.capture,
         },
         &mut daemon,
+        options,
     )
+}
+
+/// The addresses that may ask a meter.
+pub(crate) fn heads_of(alloc: Global, options: &MeterOptions<'_>) -> Result<Vec<SocketAddr>, Fault>
+    ensures heads { IfOk result (λ heads. heads.items ≡ options.now.heads.items) }
+    ensures faults { IfErr result (λ f. f ≡ Fault.OutOfMemory) }
+{
+    Ok(Vec::from_slice(alloc, &options.heads)?)
 }
 
 /// The strangers to meters that just these addresses may ask, if there is one.
@@ -197,6 +213,7 @@ pub(crate) fn strangers_of(
     heads: &[SocketAddr],
     are_recorded: bool,
 ) -> Result<Strangers, Fault>
+    ensures known { IfOk result (λ s. (address : Address) → is_stranger s.known address ≡ is_strange heads.now address) }
     ensures faults { IfErr result (λ f. f ≡ Fault.OutOfMemory) }
 {
     Ok(Strangers::of_meter(alloc, heads, are_recorded)?)
@@ -219,7 +236,11 @@ fn serve_daemon<R: Files<File = File> + Clock + Wait, W: Write>(
     writer: &mut W,
     port: RecordedPort<'_>,
     daemon: &mut MeterDaemon<FileStore>,
+    options: &MeterOptions<'_>,
 ) -> Result<(), Because<Fault>>
+    // Just the addresses of the options may ask, and who has none of them is a stranger.
+    requires heads { (daemon_of daemon.old).heads ≡ options.now.heads.items }
+    requires strangers { (address : Address) → is_stranger port.strangers.known address ≡ is_strange options.now.heads.items address }
     ensures ends { IsErr result }
     ensures silent { IfErr result (λ b. b.error ≢ Fault.Socket → b.error ≢ Fault.Output → b.error ≢ Fault.CaptureFault
         → Keeps (W.contents writer.old) (W.contents writer.new)) }
@@ -234,13 +255,41 @@ fn serve_daemon<R: Files<File = File> + Clock + Wait, W: Write>(
         capture,
     } = port;
     tell_listening(alloc, writer, at)?;
-    let mut teller = Teller::new(rt, alloc, writer);
+    let mut lines = Lines::new(alloc, writer);
     let recorder = file.as_mut();
     let mut port = CapturePort::of_meter(rt, alloc, &mut socket, at, &mut strangers, recorder);
-    let Closed = serve(rt, alloc, &mut port, daemon, &mut teller);
+    let Closed = serve_told(rt, alloc, &mut lines, &mut port, daemon);
     let has_failed = port.has_failed();
     drop(port);
     Err(closing(capture, has_failed, failure_of(file.as_ref())))
+}
+
+/// Serves this meter, until its port is closed, and writes the lines of what there is to tell of it.
+fn serve_told<R: Clock + Wait, W: Write, V: Sink + Drop>(
+    rt: &R,
+    alloc: Global,
+    lines: &mut Lines<'_, W>,
+    port: &mut CapturePort<'_, R, V>,
+    daemon: &mut MeterDaemon<FileStore>,
+) -> Closed {
+    let mut teller = Teller::new(rt, lines);
+    serve_watched(rt, alloc, port, daemon, &mut teller)
+}
+
+/// The same, told by this teller: each image that the meter switches to, once and in order.
+fn serve_watched<R: Clock + Wait, W: Write, V: Sink + Drop>(
+    rt: &R,
+    alloc: Global,
+    port: &mut CapturePort<'_, R, V>,
+    daemon: &mut MeterDaemon<FileStore>,
+    teller: &mut Teller<'_, '_, R, W>,
+) -> Closed
+    ensures lines { teller.new.lines.ghost_name ≡ teller.old.lines.ghost_name }
+    ensures writer { teller.new.lines.now.writer.ghost_name ≡ teller.old.lines.now.writer.ghost_name }
+    ensures told { TellsRounds (daemon_of daemon.old) (daemon_of daemon.new) teller.old.lines.now.lost teller.new.lines.now.lost
+        (W.contents teller.old.lines.now.writer.now) (W.contents teller.new.lines.now.writer.now) }
+{
+    serve(rt, alloc, port, daemon, teller)
 }
 
 /// A port, with the address that it has.
@@ -267,10 +316,9 @@ impl Listening {
 
 /// What a daemon reports while it serves.
 #[derive(Drop)]
-pub(crate) struct Teller<'a, C: Clock, W: Write> {
+pub(crate) struct Teller<'a, 'w, C: Clock, W: Write> {
     rt: &'a C,
-    alloc: Global,
-    writer: &'a mut W,
+    pub(crate) lines: &'a mut Lines<'w, W>,
     /// What the last line about it said.
     dropped: Dropped,
     faults: u64,
@@ -278,13 +326,17 @@ pub(crate) struct Teller<'a, C: Clock, W: Write> {
     told_at: Option<Instant>,
 }
 
-impl<'a, C: Clock, W: Write> Teller<'a, C, W> {
+impl<'a, 'w, C: Clock, W: Write> Teller<'a, 'w, C, W> {
     /// Nothing is reported yet, and nothing was dropped.
-    pub(crate) fn new(rt: &'a C, alloc: Global, writer: &'a mut W) -> Teller<'a, C, W> {
+    pub(crate) fn new(rt: &'a C, lines: &'a mut Lines<'w, W>) -> Teller<'a, 'w, C, W>
+        ensures lines { result.lines.ghost_name ≡ lines.entry.ghost_name }
+        ensures writer { result.lines.now.writer.ghost_name ≡ lines.old.writer.ghost_name }
+        ensures lost { result.lines.now.lost ≡ lines.old.lost }
+        ensures unwritten { W.contents result.lines.now.writer.now ≡ W.contents lines.old.writer.now }
+    {
         Teller {
             rt,
-            alloc,
-            writer,
+            lines,
             dropped: Dropped {
                 strangers: 0,
                 unserved: 0,
@@ -294,9 +346,27 @@ impl<'a, C: Clock, W: Write> Teller<'a, C, W> {
         }
     }
 
+    /// Reports the image that the meter switched to, where it did.
+    fn tell_switch(&mut self, activated: Option<ImageName>)
+        ensures lines { self.new.lines.ghost_name ≡ self.old.lines.ghost_name }
+        ensures writer { self.new.lines.now.writer.ghost_name ≡ self.old.lines.now.writer.ghost_name }
+        ensures told { Told (lines_of (said_of activated)) self.old.lines.now.lost self.new.lines.now.lost (W.contents self.old.lines.now.writer.now)
+            (W.contents self.new.lines.now.writer.now) }
+    {
+        match activated {
+            Some(name) => self.lines.tell_activated(name),
+            None => {}
+        }
+    }
+
     /// Reports what was dropped where that is not what the last line said, and a minute or more after that line. Where the system
     /// has no time, it reports nothing.
-    fn tell_dropped(&mut self, dropped: Dropped, faults: u64) {
+    fn tell_dropped(&mut self, dropped: Dropped, faults: u64)
+        ensures lines { self.new.lines.ghost_name ≡ self.old.lines.ghost_name }
+        ensures writer { self.new.lines.now.writer.ghost_name ≡ self.old.lines.now.writer.ghost_name }
+        ensures told { (says : Bool) × Told (lines_of (lack_of says dropped faults)) self.old.lines.now.lost self.new.lines.now.lost
+            (W.contents self.old.lines.now.writer.now) (W.contents self.new.lines.now.writer.now) }
+    {
         if dropped == self.dropped && faults == self.faults {
             return;
         }
@@ -309,15 +379,21 @@ impl<'a, C: Clock, W: Write> Teller<'a, C, W> {
         self.dropped = dropped;
         self.faults = faults;
         self.told_at = Some(now);
-        let _lost = tell_dropped(self.alloc, self.writer, dropped, faults);
+        self.lines.tell_dropped(dropped, faults);
     }
 }
 
-impl<'a, C: Clock, W: Write> Watch for Teller<'a, C, W> {
+impl<'a, 'w, C: Clock, W: Write> Watch for Teller<'a, 'w, C, W> {
+    ghost use Rattle.std.specs.Prelude.{◌≡◌};
+    ghost use Rattle.fw_cli.specs.Telling.{IsSaid};
+
+    ghost tells = { λ start names teller. (teller.lines.ghost_name ≡ start.lines.ghost_name)
+        × (teller.lines.now.writer.ghost_name ≡ start.lines.now.writer.ghost_name)
+        × IsSaid names start.lines.now.lost teller.lines.now.lost (W.contents start.lines.now.writer.now)
+        (W.contents teller.lines.now.writer.now) };
+
     fn round(&mut self, activated: Option<ImageName>, dropped: Dropped, faults: u64) {
-        if let Some(name) = activated {
-            let _lost = tell_activated(self.alloc, self.writer, name);
-        }
+        self.tell_switch(activated);
         self.tell_dropped(dropped, faults);
     }
 }
@@ -341,26 +417,5 @@ pub(crate) fn tell_listening<W: Write>(
     ensures faults { IfErr result (λ f. (f ≡ Fault.Output) ⊎ (f ≡ Fault.OutOfMemory)) }
 {
     let line = listening_line(alloc, at)?;
-    write_text(writer, line.as_str())
-}
-
-/// Writes which image the meter switched to.
-fn tell_activated<W: Write>(alloc: Global, writer: &mut W, name: ImageName) -> Result<(), Fault>
-    ensures written { OnOk result (Appends (W.contents writer.old) (W.contents writer.new) (activated_line name)) }
-{
-    let line = activated_line(alloc, name)?;
-    write_text(writer, line.as_str())
-}
-
-/// Writes what was dropped.
-fn tell_dropped<W: Write>(
-    alloc: Global,
-    writer: &mut W,
-    dropped: Dropped,
-    faults: u64,
-) -> Result<(), Fault>
-    ensures written { OnOk result (Appends (W.contents writer.old) (W.contents writer.new) (dropped_line dropped faults)) }
-{
-    let line = dropped_line(alloc, dropped, faults)?;
     write_text(writer, line.as_str())
 }

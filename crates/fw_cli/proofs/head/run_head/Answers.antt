@@ -2,6 +2,7 @@ use Rattle.std.proofs.Common.{◌≡◌}
 use Rattle.std.proofs.lemmas.Result.{err_from_is_err_and}
 use Rattle.fw_cli.specs.Heads.{IsAskedFor}
 use Rattle.fw_host.specs.Heads.{IsOfHead}
+use Rattle.fw_cli.proofs.Begun.{led_out}
 use Rattle.fw_cli.proofs.HeadLeading.{line_lost, passed_because}
 use Rattle.fw_cli.proofs.head.run_head.Goals as goal
 
@@ -41,3 +42,9 @@ returns-in_err-begin-clause-faults g c =
     let passed = err_from_is_err_and c.from_residual-in_err-begin.result c.from_residual-in_err-begin.ensures.1 in
     let same : passed.0.error ≡ c.in_err-begin.field-0.0.error = cc passed.2 in
     passed_because c.from_residual-in_err-begin.result IsOfHead passed.0 _ passed.1 same c.in_err-begin.ensures.faults.0
+
+pub returns-in-Ok-clause-led : goal.returns-in-Ok-clause-led
+returns-in-Ok-clause-led g c =
+    let set = c.in_ok-port.ensures in
+    led_out c.args.options.now _ _ _ _ c.in_ok-port.field-0.kept _ _ _ set.list.1 set.opening c.take.ensures.value set.number set.width c.in_ok-begin.ensures.begins c.in_ok-daemon.ensures.made
+    c.in-Ok.ensures.ran_out

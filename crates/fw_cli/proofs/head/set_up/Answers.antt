@@ -41,6 +41,15 @@ returns-in_err-kept-clause-faults g c =
     let same : passed.0.error ≡ c.in_err-kept.field-0.0.error = cc passed.2 in
     passed_because c.from_residual-in_err-kept.result IsOfHeadSetup passed.0 _ passed.1 same c.in_err-kept.ensures.faults
 
+pub returns-clause-list : goal.returns-clause-list
+returns-clause-list g c = c.in_ok-asked.ensures.list
+
+pub returns-clause-opening : goal.returns-clause-opening
+returns-clause-opening g c = c.in_ok-asked.ensures.opening
+
+pub returns-clause-width : goal.returns-clause-width
+returns-clause-width g c = c.in_ok-kept.ensures.width
+
 pub returns-clause-opened : goal.returns-clause-opened
 returns-clause-opened g c = c.in_ok-asked.ensures.opened
 

@@ -1,0 +1,119 @@
+-- What a daemon tells, in lines.
+use Rattle.std.proofs.Common.{◌≡◌, ℕ, Bool, true, false, List, [], ◌∷◌, ◌++◌, map, refl, sym, ap, subst, append-nil, ◌∙◌}
+use Rattle.std.proofs.lemmas.List.{map-append}
+use Rattle.std.specs.Prelude.{Option, Some, None}
+use Rattle.fw_names.specs.Name.{Campaign, Name}
+use Rattle.fw_daemon.specs.Rounds.{named}
+use Rattle.fw_daemon.specs.declared.daemon.Dropped.{Dropped}
+use Rattle.fw_head.specs.Head.{Head, campaign_at, cancelled_head}
+use Rattle.fw_rollout.specs.Counting.{CountsRows}
+use Rattle.fw_rollout.specs.declared.daemon.Counts.{Counts}
+use Rattle.fw_rollout.specs.declared.ended.Ended.{Ended}
+use Rattle.fw_host.specs.Heads.{cancelled_line, opened_line}
+use Rattle.fw_host.specs.Openings.{OpensPart}
+use Rattle.fw_host.specs.Telling.{Told, lines_of_rows}
+use Rattle.fw_host.specs.declared.head_opening.part.Part.{Part}
+use Rattle.fw_host.proofs.Tellings.{told_none, told_on}
+use Rattle.fw_cli.specs.Telling.{Change, ChangesAll, ChangesOne, IsSaid, Said, TellsChanges, TellsEnded, cancels, lacked, lack_of, line_of, lines_of, names_in, opens, said_of, switched}
+
+-- ---- of meters
+
+names_append : (xs ys : List Said) → names_in (xs ++ ys) ≡ names_in xs ++ names_in ys
+names_append [] ys = refl
+names_append (switched name ∷ xs) ys = ap (λ (l : List Name). name ∷ l) (names_append xs ys)
+names_append (lacked dropped faults ∷ xs) ys = names_append xs ys
+
+names_of_round : (activated : Option Name) → names_in (said_of activated) ≡ named activated
+names_of_round None = refl
+names_of_round (Some name) = refl
+
+names_of_lack : (says : Bool) (dropped : Dropped) (faults : ℕ) → names_in (lack_of says dropped faults) ≡ []
+names_of_lack true dropped faults = refl
+names_of_lack false dropped faults = refl
+
+lines_append : (xs ys : List Said) → lines_of (xs ++ ys) ≡ lines_of xs ++ lines_of ys
+lines_append xs ys = map-append (λ (one : Said). line_of one) xs ys
+
+pub said_none : (was : Bool) (a : Option (List ℕ)) → IsSaid [] was was a a
+said_none was a = record { said = []; names_are = refl; told = told_none was a }
+
+-- of a round without a switch nothing is told
+pub switch_none : (activated : Option Name) (was : Bool) (a : Option (List ℕ)) → activated ≡ None → Told (lines_of (said_of activated)) was was a a
+switch_none activated was a none = subst (λ (o : Option Name). Told (lines_of (said_of o)) was was a a) (sym none) (told_none was a)
+
+said_more : (names more : List Name) (said next : List Said) (p q r : Bool) (a b c : Option (List ℕ)) → names_in said ≡ names → names_in next ≡ more
+    → Told (lines_of said) p q a b → Told (lines_of next) q r b c → IsSaid (names ++ more) p r a c
+said_more names more said next p q r a b c are those first second = record {
+  said = said ++ next;
+  names_are = names_append said next ∙ ap (λ (l : List Name). l ++ names_in next) are ∙ ap (λ (l : List Name). names ++ l) those;
+  told = subst (λ (l : List (List ℕ)). Told l p r a c) (sym (lines_append said next)) (told_on (lines_of said) (lines_of next) p q r a b c first second);
+}
+
+-- a round is told
+pub said_round : (names : List Name) (activated : Option Name) (says : Bool) (dropped : Dropped) (faults : ℕ) (p q r s : Bool) (a b c d : Option (List ℕ)) → IsSaid names p q a b
+    → Told (lines_of (said_of activated)) q r b c → Told (lines_of (lack_of says dropped faults)) r s c d → IsSaid (names ++ named activated) p s a d
+said_round names activated says dropped faults p q r s a b c d was switch lack =
+    let next = said_of activated ++ lack_of says dropped faults in
+    let those : names_in next ≡ named activated =
+    names_append (said_of activated) (lack_of says dropped faults) ∙ ap (λ (l : List Name). l ++ names_in (lack_of says dropped faults)) (names_of_round activated)
+    ∙ ap (λ (l : List Name). named activated ++ l) (names_of_lack says dropped faults) ∙ append-nil (named activated) in
+    let told : Told (lines_of next) q s b d =
+    subst (λ (l : List (List ℕ)). Told l q s b d) (sym (lines_append (said_of activated) (lack_of says dropped faults)))
+    (told_on (lines_of (said_of activated)) (lines_of (lack_of says dropped faults)) q r s b c d switch lack) in
+    said_more names (named activated) was.said next p q s a b d was.names_are those was.told told
+
+-- ---- of head ends
+
+changes_append : (start middle now : Head) (xs ys : List Change) (ks ls : List (List ℕ)) → ChangesAll start xs ks middle → ChangesAll middle ys ls now
+    → ChangesAll start (xs ++ ys) (ks ++ ls) now
+changes_append start middle now [] ys [] ls same then = subst (λ (h : Head). ChangesAll h ys ls now) same then
+changes_append start middle now [] ys (k ∷ ks) ls first then = absurd first
+changes_append start middle now (x ∷ xs) ys [] ls first then = absurd first
+changes_append start middle now (x ∷ xs) ys (k ∷ ks) ls (next, one, all) then = (next, one, changes_append next middle now xs ys ks ls all then)
+
+pub changes_none : (h : Head) (was : Bool) (a : Option (List ℕ)) → TellsChanges h h was was a a
+changes_none h was a = record { changes = []; lines = []; made = refl; told = told_none was a }
+
+-- nothing was changed or told
+pub changes_same : (old new : Head) (was : Bool) (a : Option (List ℕ)) → new ≡ old → TellsChanges old new was was a a
+changes_same old new was a same = record { changes = []; lines = []; made = same; told = told_none was a }
+
+pub changes_one : (old new : Head) (change : Change) (line : List ℕ) (p q : Bool) (a b : Option (List ℕ)) → ChangesOne old change line new → Told (line ∷ []) p q a b
+    → TellsChanges old new p q a b
+changes_one old new change line p q a b made told = record { changes = change ∷ []; lines = line ∷ []; made = (new, made, refl); told = told }
+
+-- what is cancelled is told of
+pub changes_cancelled : (serial : ℕ) (campaign : Campaign) (old new : Head) (p q : Bool) (a b : Option (List ℕ)) → new ≡ cancelled_head old serial → campaign ≡ campaign_at old serial
+    → Told (cancelled_line campaign ∷ []) p q a b → TellsChanges old new p q a b
+changes_cancelled serial campaign old new p q a b made is told =
+    changes_one old new (cancels serial) (cancelled_line campaign) p q a b (made, ap (λ (it : Campaign). cancelled_line it) is) told
+
+-- what is opened is told of, and what is passed over isn't
+pub changes_opened : (release : ℕ) (image : List ℕ) (part : Part) (opened : Option Name) (name : Name) (old new : Head) (p q : Bool) (a b : Option (List ℕ)) → opened ≡ Some name
+    → OpensPart release image part old opened new → Told (opened_line name ∷ []) p q a b → TellsChanges old new p q a b
+changes_opened release image part opened name old new p q a b some opens_it told =
+    let (_, is, made) = subst (λ (o : Option Name). OpensPart release image part old o new) some opens_it in
+    changes_one old new (opens part.serial release image part.meters.items) (opened_line name) p q a b (made, ap (λ (it : Name). opened_line it) is) told
+
+pub changes_passed : (release : ℕ) (image : List ℕ) (part : Part) (opened : Option Name) (old new : Head) (p : Bool) (a : Option (List ℕ)) → opened ≡ None
+    → OpensPart release image part old opened new → TellsChanges old new p p a a
+changes_passed release image part opened old new p a none passes =
+    let (_, same) = subst (λ (o : Option Name). OpensPart release image part old o new) none passes in
+    changes_same old new p a same
+
+pub changes_on : (old middle new : Head) (p q r : Bool) (a b c : Option (List ℕ)) → TellsChanges old middle p q a b → TellsChanges middle new q r b c → TellsChanges old new p r a c
+changes_on old middle new p q r a b c first second = record {
+  changes = first.changes ++ second.changes;
+  lines = first.lines ++ second.lines;
+  made = changes_append old middle new first.changes second.changes first.lines second.lines first.made second.made;
+  told = told_on first.lines second.lines p q r a b c first.told second.told;
+}
+
+-- rows ended, and their lines were told
+pub rows_told : (was now : Counts) (rows : List Ended) (p q : Bool) (a b : Option (List ℕ)) → CountsRows rows was now → Told (lines_of_rows rows) p q a b
+    → TellsEnded was now [] p q a b
+rows_told was now rows p q a b counts told = record {
+  rows = rows;
+  counts = counts;
+  told = subst (λ (l : List (List ℕ)). Told l p q a b) (sym (append-nil (lines_of_rows rows))) told;
+}

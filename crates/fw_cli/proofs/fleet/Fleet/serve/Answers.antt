@@ -1,0 +1,12 @@
+use Rattle.std.proofs.Common.{rules}
+use Rattle.fw_cli.proofs.Fleeting.{fleet_none, fleet_then}
+use Rattle.fw_cli.proofs.fleet.Fleet.serve.Goals as goal
+
+pub loop-init : goal.loop-init
+loop-init g c = (search rules, search rules, fleet_none g.W.Watch.tells _ _)
+
+pub loop-preserved : goal.loop-preserved
+loop-preserved g c = (search rules, search rules, fleet_then g.W.Watch.tells _ _ _ _ _ _ c.loop.invariant.2 c.round.ensures.watched)
+
+pub returns-in-Err : goal.returns-in-Err
+returns-in-Err g c = record { watched = fleet_then g.W.Watch.tells _ _ _ _ _ _ c.loop.invariant.2 c.round.ensures.watched }

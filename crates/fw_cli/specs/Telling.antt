@@ -1,0 +1,90 @@
+-- For private clauses alone: what a daemon tells while it serves or leads, in lines.
+use Rattle.std.specs.Prelude.{◌≡◌, ℕ, Bool, true, false, List, [], ◌∷◌, ◌++◌, Option, None, Some, map}
+use Rattle.fw_names.specs.Name.{Name, name_of}
+use Rattle.fw_daemon.specs.Daemon.{Daemon}
+use Rattle.fw_daemon.specs.Rounds.{GoesRounds, switches_in}
+use Rattle.fw_daemon.specs.declared.daemon.Dropped.{Dropped}
+use Rattle.fw_head.specs.Head.{Head, campaign_at, cancelled_head, opened_head}
+use Rattle.fw_rollout.specs.Counting.{CountsRows}
+use Rattle.fw_rollout.specs.declared.daemon.Counts.{Counts}
+use Rattle.fw_rollout.specs.declared.ended.Ended.{Ended}
+use Rattle.fw_host.specs.Heads.{cancelled_line, opened_line}
+use Rattle.fw_host.specs.Meters.{activated_line, dropped_line}
+use Rattle.fw_host.specs.Telling.{Told, lines_of_rows}
+
+-- ---- of meters
+
+pub data Said : Type 0 where
+  -- the meter switched to the image of this name
+  switched : Name → Said
+  -- so much was dropped, and so often the port failed
+  lacked : Dropped → ℕ → Said
+
+abbrev pub line_of : Said → List ℕ
+line_of (switched name) = activated_line name
+line_of (lacked dropped faults) = dropped_line dropped faults
+
+abbrev pub lines_of : List Said → List (List ℕ)
+lines_of said = map (λ (one : Said). line_of one) said
+
+-- the names of the images of which it was said that the meter switched to them
+abbrev pub names_in : List Said → List Name
+names_in [] = []
+names_in (switched name ∷ said) = name ∷ names_in said
+names_in (lacked dropped faults ∷ said) = names_in said
+
+-- what is said of a round
+abbrev pub said_of : Option Name → List Said
+said_of None = []
+said_of (Some name) = switched name ∷ []
+
+-- what is said of what was dropped, if anything is
+abbrev pub lack_of : Bool → Dropped → ℕ → List Said
+lack_of true dropped faults = lacked dropped faults ∷ []
+lack_of false dropped faults = []
+
+-- of switches just these were told, in this order
+pub record IsSaid (names : List Name) (was_lost is_lost : Bool) (before after : Option (List ℕ)) : Type 0 where
+  pub said : List Said
+  pub names_are : names_in said ≡ names
+  pub told : Told (lines_of said) was_lost is_lost before after
+
+-- a meter made rounds, and of switches just those in them were told
+pub record TellsRounds (start now : Daemon) (was_lost is_lost : Bool) (before after : Option (List ℕ)) : Type 0 where
+  pub rounds : List (Option Name)
+  pub made : GoesRounds start rounds now
+  pub said : IsSaid (switches_in rounds) was_lost is_lost before after
+
+-- ---- of head ends
+
+pub data Change : Type 0 where
+  -- the campaign of this serial number is cancelled
+  cancels : ℕ → Change
+  -- one is opened, of this release and this image, for these meters
+  opens : ℕ → ℕ → List ℕ → List ℕ → Change
+
+-- a change of the book, and the line that tells of it
+abbrev pub ChangesOne : Head → Change → List ℕ → Head → Type 0
+ChangesOne old (cancels serial) line new = (new ≡ cancelled_head old serial) × (line ≡ cancelled_line (campaign_at old serial))
+ChangesOne old (opens serial release image meters) line new =
+    (new ≡ opened_head old serial release image meters) × (line ≡ opened_line (name_of (campaign_at old serial) release image))
+
+-- changes one after another, each with its line
+abbrev pub ChangesAll : Head → List Change → List (List ℕ) → Head → Type 0
+ChangesAll start [] [] now = now ≡ start
+ChangesAll start [] (line ∷ lines) now = ⊥
+ChangesAll start (change ∷ changes) [] now = ⊥
+ChangesAll start (change ∷ changes) (line ∷ lines) now = (next : Head) × ChangesOne start change line next × ChangesAll next changes lines now
+
+-- the book was changed, and just the lines of these changes were told
+pub record TellsChanges (start now : Head) (was_lost is_lost : Bool) (before after : Option (List ℕ)) : Type 0 where
+  pub changes : List Change
+  pub lines : List (List ℕ)
+  pub made : ChangesAll start changes lines now
+  pub told : Told lines was_lost is_lost before after
+
+-- rows ended and are on the device, and just their lines were told, and then these
+pub record TellsEnded (was now : Counts) (then : List (List ℕ)) (was_lost is_lost : Bool) (before after : Option (List ℕ)) : Type 0 where
+  pub rows : List Ended
+  pub counts : CountsRows rows was now
+  pub told : Told (lines_of_rows rows ++ then) was_lost is_lost before after
