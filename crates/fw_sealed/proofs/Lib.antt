@@ -1,0 +1,4 @@
+mod Lists
+mod Sealed
+mod Counting
+mod Ports
