@@ -13,7 +13,7 @@ def number(n):
 
 
 def keep(limits):
-    """Prints each limit, its figure and the most that it may be, and ends the program: with status 1 where one is passed."""
+    """Prints each limit, its figure and the most that it may be, and ends the program: with status 1 if one is passed."""
     for limit, figure, most in limits:
         print(f"{OVER if figure > most else KEPT}{limit}: {number(figure)}, at most {number(most)}")
     sys.exit(any(figure > most for _, figure, most in limits))

@@ -70,11 +70,11 @@ def load(word, first, second, strings=()):
 
 
 def build():
-    """Proves and builds the program of the loads, and does those whose counts are known, where that was not done since a source changed."""
+    """Proves and builds the program of the loads, and does those whose counts are known, if that was not done since a source changed."""
     LOADS.build()
 
 
-# The C library copies and sets by one instruction from some 2,048 bytes on, where the processor has it, and callgrind counts that once a
+# The C library copies and sets by one instruction from some 2,048 bytes on, if the processor has it, and callgrind counts that once a
 # byte. So the figures would be those of the machine: under callgrind it goes on with its other instructions.
 COUNTED = "glibc.cpu.x86_rep_movsb_threshold=1073741824:glibc.cpu.x86_rep_stosb_threshold=1073741824"
 

@@ -37,7 +37,7 @@ class Killed(Exception):
 
 
 def wants(holds, why):
-    """Fails a try where something doesn't hold."""
+    """Fails a try if something doesn't hold."""
     if not holds:
         raise Failed(why)
 
@@ -162,7 +162,7 @@ def receive(head, meter, image):
         status = head.ask_until(meter, GET_STATUS)
         if status != STATUS % 2:
             break
-        # As a head end does: a meter takes a turn where nothing comes.
+        # As a head end does: a meter takes a turn if nothing comes.
         time.sleep(0.005)
     wants(status == STATUS % 3, f"the status is {status}")
     got = head.ask_until(meter, action(4, "0f00"))
@@ -224,7 +224,7 @@ def status_of(folder, form):
 
 
 class Fleet:
-    """Meters in processes of their own, and the list of them. Each has an address of its own, which it keeps where it is killed."""
+    """Meters in processes of their own, and the list of them. Each has an address of its own, which it keeps if it is killed."""
 
     def __init__(self, folder, count=4, host="127.0.0.1", words=("--block-size", "1024", "--capacity", "65536"), heads=None):
         folder.mkdir(exist_ok=True)

@@ -56,7 +56,7 @@ def functions_in(file, text, homes):
 
 
 def body_of(lines, at, indent):
-    """Where the body of the function at a line with this indentation begins, and where it ends. None where it has no body."""
+    """Where the body of the function at a line with this indentation begins, and where it ends. None if it has no body."""
     if lines[at].endswith("}") and lines[at].count("{") == lines[at].count("}"):
         return at, at
     opens = next((it for it in range(at, len(lines)) if is_at(lines[it], indent) and lines[it].endswith(("{", "{}", ";"))), None)
@@ -147,7 +147,7 @@ class Crate:
         return found[-1] if found else None
 
     def changed_by(self, edit):
-        """The functions in whose bodies the edit's places are, or none where one of them is in no body."""
+        """The functions in whose bodies the edit's places are, or none if one of them is in no body."""
         try:
             _, places = edit.applied(self.texts)
         except Unfit:
@@ -199,7 +199,7 @@ class Crate:
         return unit, bool(LOST.match(line)), f"{by}: {said}"
 
     def unit_of_proof(self, file):
-        """The unit of the function whose answers a file of proofs/ has, or None where that isn't plain."""
+        """The unit of the function whose answers a file of proofs/ has, or None if that isn't plain."""
         *folders, last = file.split("/")[1:-1] or [""]
         if last.startswith("+"):
             return f"cycle {last[1:]}"
@@ -244,7 +244,7 @@ def crates_of(files):
 
 
 def judged(crate, changed, status, lines):
-    """What a check with some edits says: a kind where it says the same of all of them (that they don't compile, have no
+    """What a check with some edits says: a kind if it says the same of all of them (that they don't compile, have no
     verdict, or are let through), otherwise each thing that it says of a place."""
     last = next((it for it in reversed(lines) if it.startswith(("logic=", "only=", "rattle: no verdict"))), "")
     if status == 0 and re.match(r"logic=proved |only=(\d+) proved=\1$", last):

@@ -17,7 +17,7 @@ class Option:
         self.name, self.letter, self.value = name, letter, value
         self.forms = forms[1].split(", ") if forms else []
         self.is_file = value in FILES
-        # (the parser refuses any other option where it is given twice)
+        # (the parser refuses any other option if it is given twice)
         self.is_repeated = "once for each" in text
         self.text = re.sub(r" \[.*", "", text)
 

@@ -33,7 +33,7 @@ class TextCrate:
         self.program = folder.parent / "out" / f"{self.name}_tests"
 
     def build(self):
-        """Proves and builds the program, and runs its tests, where that was not done since a source changed.
+        """Proves and builds the program, and runs its tests, if that was not done since a source changed.
 
         The libraries are built in the checkout, where they are kept. The crate itself is in a copy of the crates, which is removed.
         """

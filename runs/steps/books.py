@@ -41,7 +41,7 @@ def wrong(state, may_be):
 
 
 def judged(run, cuts):
-    """Fails where a cut of a run leaves what it must not."""
+    """Fails if a cut of a run leaves what it must not."""
     faults = [fault for fault in (wrong(*cut) for cut in cuts) if fault]
     wants(not faults, f"of {len(cuts)} cuts of {run.words()} {len(faults)} leave what they must not; of one {faults[:1]}")
 
@@ -50,7 +50,7 @@ def judged(run, cuts):
 # written anew; a book written anew that isn't synced before its rename; a record that isn't synced before its gate, or a gate before its
 # line is told; a file that is cut off before what is cut off is kept and synced, or before its folder is.
 def books_outlive_cuts(place):
-    """A book that is cut at a call is that of a moment since the last line, also where it is made or written anew. What an opening cuts off
+    """A book that is cut at a call is that of a moment since the last line, also if it is made or written anew. What an opening cuts off
     is kept."""
     played, chance = place_of(place), random.Random(70)
     disk, known, anew = Disk(), None, 0

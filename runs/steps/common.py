@@ -106,7 +106,7 @@ def received(sock):
 
 
 def stays_silent(*socks, seconds=SILENCE):
-    """Fails where a datagram comes to one of these."""
+    """Fails if a datagram comes to one of these."""
     for sock in select.select(socks, [], [], seconds)[0]:
         raise Failed(f"{sock.recv(65535).hex()} comes to {sock.getsockname()}")
 

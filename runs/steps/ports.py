@@ -279,7 +279,7 @@ def records_come_first(place):
 
 
 def answered(head, meter, line, code):
-    """Fails where the answer to an ACTION or a SET has another code."""
+    """Fails if the answer to an ACTION or a SET has another code."""
     got = head.ask_until(meter, line)
     wants(got[22:24] == f"{code:02x}", f"the answer to {line[:60]} is {got}")
 
@@ -305,7 +305,7 @@ def brought(head, meter, image, noise=None):
 # To be seen: a port that waits in place of a turn; a fleet whose meters take no turns, or of which one does alone; a switch that isn't
 # told.
 def verifies_in_turns(place):
-    """An image of 40 slices is verified where nothing comes, and by the second meter of a fleet among what strangers send."""
+    """An image of 40 slices is verified if nothing comes, and by the second meter of a fleet among what strangers send."""
     image = bytes(range(256)) * 640
     digest = hashlib.sha256(image).hexdigest()
     told, head = [f"activated 7 1 0 {digest}\n"], Head()

@@ -78,7 +78,7 @@ def begins(text, wanted):
 
 
 def refused(place, fault, about, *words, head="7", **how):
-    """Fails where a head end isn't refused for this fault with a second line about this, or changes its book."""
+    """Fails if a head end isn't refused for this fault with a second line about this, or changes its book."""
     path = place.folder / "head.book"
     before = path.read_bytes() if path.exists() else None
     status, lines, said = HeadEnd(place.folder, *words, head=head, **how).end(patience=PATIENCE)

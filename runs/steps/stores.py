@@ -82,7 +82,7 @@ class Cut:
         return lines([*READS, *RUNS[self.run + 1 :]])
 
     def may_answer(self):
-        """What it may answer: as after the run, or where that has not ended as before it."""
+        """What it may answer: as after the run, or if that has not ended as before it."""
         rest = RUNS[self.run + 1 :]
         answers = [lines([*SHOWN[self.run], *(answer(run, 0) for run in rest)])]
         if not self.has_ended and self.run > 0:
@@ -111,7 +111,7 @@ def cuts_of(disk, run, calls):
 
 
 def judged(place, cuts):
-    """Fails where a cut leaves what it must not."""
+    """Fails if a cut leaves what it must not."""
     cuts = list(cuts)
     faults = [(cut, fault) for cut, fault in zip(cuts, at_once(lambda cut: cut.fault(place), cuts)) if fault]
     if faults:
