@@ -8,7 +8,7 @@ use Rattle.fw_journal.specs.declared.device.JournalDevice
 use Rattle.fw_journal.specs.declared.journal.Journal.{Journal}
 use Rattle.fw_counter.specs.Reserved.{reserved_by, Reserves, HasReserved}
 use Rattle.fw_counter.specs.Counters.{device_of, is_broken, Holds, IsKept}
-use Rattle.fw_counter.specs.declared.counters.Counters.{Counters}
+use Rattle.fw_counter.specs.declared.counters.KeptCounters.{KeptCounters}
 use Rattle.fw_counter.proofs.Records.{fit_push, reserved_more}
 
 module _ {D : Type 0} (J : JournalDevice.Ghosts D) where
@@ -21,7 +21,7 @@ module _ {D : Type 0} (J : JournalDevice.Ghosts D) where
 
   -- ---- between two calls
 
-  pub holds_leaves : (counters : Counters D) → Holds J counters → (left : List ℕ) → J.may_leave (device_of counters) left → Reserves left counters.reserved
+  pub holds_leaves : (counters : KeptCounters D) → Holds J counters → (left : List ℕ) → J.may_leave (device_of counters) left → Reserves left counters.reserved
   holds_leaves counters holds left now = record {
     records = holds.done;
     stands = record { fit = holds.has.done_fit; end = 0 ∷ []; split = holds.has.synced left now ∙ holds.has.bytes; shut = tt };
@@ -29,7 +29,7 @@ module _ {D : Type 0} (J : JournalDevice.Ghosts D) where
     bound_is = holds.reserved_is;
   }
 
-  pub kept_leaves : (counters : Counters D) → IsKept J counters → (left : List ℕ) → J.may_leave (device_of counters) left → HasReserved left counters.reserved
+  pub kept_leaves : (counters : KeptCounters D) → IsKept J counters → (left : List ℕ) → J.may_leave (device_of counters) left → HasReserved left counters.reserved
   kept_leaves counters kept left now =
       ⊎_elim (λ holds. record { all = counters.reserved; reserves = holds_leaves counters holds left now; enough = omega arith }) (λ failed. failed.leaves left now) kept
 
@@ -45,7 +45,7 @@ module _ {D : Type 0} (J : JournalDevice.Ghosts D) where
 
     -- ---- a commit of a record of a greater number, over the counters before it and the journal after it
 
-    module _ (old : Counters D) (after : Journal D) (bound : ℕ) (entry : List ℕ) (spelled : entry ≡ to_be_bytes w32 bound) (fits : bound < 2 ^ 32) (more : old.reserved ≤ bound) where
+    module _ (old : KeptCounters D) (after : Journal D) (bound : ℕ) (entry : List ℕ) (spelled : entry ≡ to_be_bytes w32 bound) (fits : bound < 2 ^ 32) (more : old.reserved ≤ bound) where
       abbrev IsEither : List ℕ → Type 0
       IsEither left = Reserves left old.reserved ⊎ Reserves left bound
 

@@ -40,7 +40,7 @@ const RANGE: u32 = 65_536;
 /// Each record of the journal is a number of four bytes, high byte first, and reserves all counters below it. A counter is given only once
 /// it is reserved, and what is reserved counts as used where the journal is opened. So a kill or a power cut wastes a range at most, and
 /// repeats nothing. There are 4,294,967,295 counters, so at most 65,536 ranges, and their records have 2.7 MB.
-pub struct Counters<D: JournalDevice> {
+pub struct KeptCounters<D: JournalDevice> {
     journal: Journal<D>,
     /// The counter that is given next.
     next: u32,
@@ -49,9 +49,9 @@ pub struct Counters<D: JournalDevice> {
 }
 
 // Written out: where counters are let go, that is one call, and none of their parts is looked into.
-impl<D: JournalDevice + Drop> Drop for Counters<D> {
+impl<D: JournalDevice + Drop> Drop for KeptCounters<D> {
     fn drop(self) {
-        let Counters {
+        let KeptCounters {
             journal: _,
             next: _,
             reserved: _,
@@ -59,7 +59,7 @@ impl<D: JournalDevice + Drop> Drop for Counters<D> {
     }
 }
 
-impl<D: JournalDevice> Counters<D> {
+impl<D: JournalDevice> KeptCounters<D> {
     ghost use Rattle.fw_counter.specs.Counters.{counter_of, device_of, is_broken, IsFull, IsKept, Holds};
 
     /// Makes counters of which none is used or reserved, on a device without bytes, and syncs it. A power cut in the call leaves any bytes,
@@ -81,7 +81,7 @@ impl<D: JournalDevice> Counters<D> {
         ensures kept { IfOk result (λ counters. Keeps D.honest D.sound device (device_of counters)) }
     {
         match Journal::create(alloc, device) {
-            Ok(journal) => Ok(Counters {
+            Ok(journal) => Ok(KeptCounters {
                 journal,
                 next: 0,
                 reserved: 0,
@@ -134,7 +134,7 @@ impl<D: JournalDevice> Counters<D> {
         fw_journal::laws::bad_is_none();
         match Journal::open(alloc, device, keeper) {
             Ok((journal, records)) => match bound_of(&records) {
-                Some(reserved) => Ok(Counters {
+                Some(reserved) => Ok(KeptCounters {
                     journal,
                     next: reserved,
                     reserved,
@@ -160,7 +160,7 @@ impl<D: JournalDevice> Counters<D> {
     pub fn into_device(self) -> D
         ensures { result ≡ device_of self }
     {
-        let Counters {
+        let KeptCounters {
             journal,
             next: _,
             reserved: _,

@@ -7,5 +7,5 @@ mod error;
 pub mod laws;
 mod reading;
 
-pub use counters::Counters;
+pub use counters::KeptCounters;
 pub use error::CounterError;

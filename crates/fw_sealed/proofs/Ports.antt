@@ -1,5 +1,5 @@
 -- What ports give: what they let through was sent, and what they sealed.
-use Rattle.std.proofs.Common.{◌≡◌, inl, inr, ℕ, List, [], ◌∷◌, Contains, sym, ap, subst}
+use Rattle.std.proofs.Common.{◌≡◌, refl, inl, inr, ℕ, List, [], ◌∷◌, Contains, sym, ap, subst}
 use Rattle.std.specs.declared.net.socket_addr.SocketAddr.{SocketAddr}
 use Rattle.fw_port.specs.Acts.{came, quiet, sent, told}
 use Rattle.fw_rollout.specs.Acts.{Act}
@@ -14,7 +14,7 @@ use Rattle.fw_field.specs.Laws.{LeadingIsMoves, ServingIsMoves, ToldIsTrue}
 use Rattle.fw_sealed.specs.Links.{Links, CameSealed, Opens, plain_of}
 use Rattle.fw_sealed.specs.Ports.{Peer, OpensAs}
 use Rattle.fw_sealed.specs.Moves.{field_moves}
-use Rattle.fw_sealed.specs.Laws.{AnswersAreSealed, LinksStaySealed, PortsKeepMeters, PortsKeepHeads, RequestsAreSealed, SealedLeadingIsMoves, SealedMovesAreMoves, SealedServingIsMoves, SealedToldIsTrue}
+use Rattle.fw_sealed.specs.Laws.{AnswersAreSealed, LinksStaySealed, PortsKeepMeters, PortsKeepHeads, PortsOpenOnly, RequestsAreSealed, SealedLeadingIsMoves, SealedMovesAreMoves, SealedServingIsMoves, SealedToldIsTrue}
 use Rattle.fw_sealed.proofs.Lists.{none_there, later, first_is, first_or}
 use Rattle.fw_sealed.proofs.Sealed.{was_sent}
 
@@ -42,6 +42,24 @@ ports_keep_meters addresses links s number heads peers acts is of_meter through 
         at = subst (λ (a : SocketAddr). Contains (addresses p.0) a) (sym t.2) p.1;
         sent = was_sent links s.seals s.arrived s.field p.0 number ToMeter datagram is.sent is.genuine
             (came_as links s.arrived p.0 number ToMeter t.0 (links.title p.0 number ToHead) datagram p.2 t.3);
+      },
+    )
+
+-- what a sealing port let through
+pub ports_open_only : (Report : Type 0) → PortsOpenOnly Report
+ports_open_only Report links peers below arrived acts opened are_peers has_arrived from datagram has =
+    let o = opened from datagram has in
+    let sealing = o.opens in (
+      record { address = from; ends = o.ends },
+      are_peers from o.ends o.there,
+      refl,
+      record {
+        wire = o.wire;
+        there = has_arrived from o.wire o.has_come;
+        counter = o.counter;
+        apdu = o.apdu;
+        opens = record { source = sealing.source; dest = sealing.dest; sealing = sealing.sealing; wraps = sealing.wraps; opens = sealing.opens };
+        plain = o.plain_is;
       },
     )
 

@@ -2,7 +2,12 @@
 use Rattle.std.specs.Prelude.{◌≡◌, ℕ, List, [], Contains, Some}
 use Rattle.std.specs.declared.net.socket_addr.SocketAddr.{SocketAddr}
 use Rattle.fw_ledger.specs.declared.record.Ending.TheVariants.{Done}
-use Rattle.fw_port.specs.Acts.{told}
+use Rattle.fw_port.specs.Acts.{Act as PortAct, came, told}
+use Rattle.fw_port.specs.declared.port.NoReport.{NoReport}
+use Rattle.fw_seal.specs.Sealing.{Ends}
+use Rattle.fw_sealport.specs.Histories.{WasOpened}
+use Rattle.fw_sealport.specs.Peers.{link_at}
+use Rattle.fw_sealport.specs.declared.links.Links.{Links as PortLinks}
 use Rattle.fw_daemon.specs.Acts.{Act}
 use Rattle.fw_daemon.specs.Daemon.{Daemon}
 use Rattle.fw_daemon.specs.Serving.{Serving}
@@ -62,6 +67,16 @@ PortsKeepHeads =
     (links : Links) (s : SealedField) (number : ℕ) (leader : Leader) (peers : List Peer) (steps : List Step)
     → IsSealed links s → ArePeersOfHead links number leader peers → OpensOnly peers s.arrived (acts_of steps)
     → CameToHead s.field number leader steps
+
+-- A sealing port is such a port, by what `fw_sealport` has as a law of it: where its links are those of these peers, and what came to the
+-- port below it is among these bytes.
+abbrev pub PortsOpenOnly : Type 0 → Type 0
+PortsOpenOnly Report =
+    (links : PortLinks) (peers : List Peer) (below : List (PortAct NoReport)) (arrived : List (List ℕ)) (acts : List (PortAct Report))
+    → ((from : SocketAddr) (datagram : List ℕ) → Contains acts (came from datagram) → WasOpened links below from datagram)
+    → ((address : SocketAddr) (ends : Ends) → link_at links address ≡ Some ends → Contains peers (record { address = address; ends = ends }))
+    → ((from : SocketAddr) (wire : List ℕ) → Contains below (came from wire) → Contains arrived wire)
+    → OpensOnly peers arrived acts
 
 -- what the ports of ends seal was sent by these, in the field that what they did leads to
 abbrev pub AnswersAreSealed : Type 0

@@ -11,6 +11,8 @@ ghost use Rattle.fw_world.specs.Headline.{
 };
 ghost use Rattle.fw_field.specs.Field.{world_of};
 ghost use Rattle.fw_field.specs.Laws.{ReportsAreTrue};
+ghost use Rattle.fw_port.specs.declared.port.NoReport.{NoReport};
+ghost use Rattle.fw_rollout.specs.declared.ended.Ended.{Ended};
 ghost use Rattle.fw_sealed.specs.Counting.{CountersRise};
 ghost use Rattle.fw_sealed.specs.Laws.{
   AfterSealedMoves,
@@ -19,6 +21,7 @@ ghost use Rattle.fw_sealed.specs.Laws.{
   IvsNeverRepeat,
   PortsKeepMeters,
   PortsKeepHeads,
+  PortsOpenOnly,
   AnswersAreSealed,
   RequestsAreSealed,
   SealedServingIsMoves,
@@ -77,6 +80,12 @@ pub fn ports_keep_meters()
 /// `fw_field::laws::leading_is_moves`.
 pub fn ports_keep_heads()
     ensures { PortsKeepHeads }
+{}
+
+/// The port of `fw_sealport` lets through only what opened, as these laws ask for, whatever daemon stands behind it.
+pub fn ports_open_only()
+    ensures meters { PortsOpenOnly NoReport }
+    ensures heads { PortsOpenOnly Ended }
 {}
 
 /// What the port of a meter sealed was sent by that meter, on the link that it is sealed for.

@@ -1,7 +1,7 @@
 //! Counters of a sealer: which are given, also once a power cut was, and what is refused.
 
 use crate::subject::Subject;
-use fw_counter::{CounterError, Counters};
+use fw_counter::{CounterError, KeptCounters};
 use fw_journal::{MemoryDevice, MemoryKeeper};
 use std::alloc::Global;
 use std::test::Fail;
@@ -12,7 +12,7 @@ use test_tables::{Reads, Words, each_line};
 /// - `take COUNT`: the last of so many that are taken
 /// - `cut`: they are opened again as a power cut leaves them
 /// - `open BYTES`: why these bytes aren't opened
-impl Reads for Subject<Counters<MemoryDevice>> {
+impl Reads for Subject<KeptCounters<MemoryDevice>> {
     fn told(&mut self, alloc: Global, what: &str) -> Result<String, Fail> {
         let mut words = Words::new(what);
         match words.word()? {
@@ -40,9 +40,9 @@ impl Reads for Subject<Counters<MemoryDevice>> {
 fn opened(
     alloc: Global,
     bytes: Vec<u8>,
-) -> Result<Result<Counters<MemoryDevice>, CounterError>, Fail> {
+) -> Result<Result<KeptCounters<MemoryDevice>, CounterError>, Fail> {
     let device = MemoryDevice::new(alloc, bytes)?;
-    match Counters::open(alloc, device, &mut MemoryKeeper::new(alloc)) {
+    match KeptCounters::open(alloc, device, &mut MemoryKeeper::new(alloc)) {
         Ok(counters) => Ok(Ok(counters)),
         Err((refusal, _)) => Ok(Err(refusal)),
     }
@@ -67,7 +67,7 @@ const GIVEN: &str = "
 fn counters_are_given_once(rt: HostRuntime) -> Result<(), Fail> {
     let alloc = rt.alloc();
     let device = MemoryDevice::new(alloc, Vec::new(alloc))?;
-    match Counters::create(alloc, device) {
+    match KeptCounters::create(alloc, device) {
         Ok(counters) => each_line(alloc, &mut Subject(counters), GIVEN),
         Err((refusal, _)) => Err(refusal.into()),
     }

@@ -1,5 +1,5 @@
-//! Tests of a client of a meter, of the book of campaigns, its records and how it is kept, of the head end, and of the daemon of a head end,
-//! through their public calls. Expected bytes are worked out by hand from the standards and the formats, and SHA-256 values are the published
+//! Tests of a client of a meter, of the book of campaigns, its records and how it is kept, of the head end, of the daemon of a head end, of
+//! counters and of key files, through their public calls. Expected bytes are worked out by hand from the standards and the formats, and SHA-256 values are the published
 //! ones or those of `sha256sum`.
 #![tactic(auto)]
 
@@ -24,6 +24,8 @@ mod head;
 #[cfg(test)]
 mod kept;
 #[cfg(test)]
+mod key_files;
+#[cfg(test)]
 mod openings;
 #[cfg(test)]
 mod outstanding;
@@ -39,6 +41,8 @@ mod returns;
 mod rollouts;
 #[cfg(test)]
 mod rows;
+#[cfg(test)]
+mod sealed;
 #[cfg(test)]
 mod setting;
 #[cfg(test)]

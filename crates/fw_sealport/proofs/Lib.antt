@@ -1,0 +1,6 @@
+mod Cases
+mod WireFacts
+mod WindowFacts
+mod LinkFacts
+mod SealerFacts
+mod Histories

@@ -1,0 +1,35 @@
+use Rattle.std.proofs.Common.{rules, ◌≡◌, ◌∷◌, inl, inr, refl, sym, subst, take}
+use Rattle.fw_port.specs.Acts.{came}
+use Rattle.fw_sealport.proofs.port.SealedPort.receive_opened.Goals as goal
+
+-- what the port below received is let through
+pub returns-clause-arrives : goal.returns-clause-arrives
+returns-clause-arrives g c =
+    let arrival = c.in-Some.arrival in
+    record {
+      wire = take arrival.count c.receive.new.buffer;
+      below = λ honest.
+          let is : g.P.Port.acts c.receive.new.self ≡ came arrival.from (take arrival.count c.receive.new.buffer) ∷ g.P.Port.acts c.args.self.now.port = search rules in
+          subst (λ p. g.P.Port.acts p ≡ came arrival.from (take arrival.count c.receive.new.buffer) ∷ g.P.Port.acts c.args.self.now.port) (sym c.open_in_place.ensures.port) is;
+      lets = c.in-Some-open_in_place.ensures.lets;
+      uncounted = c.in-Some-open_in_place.ensures.uncounted;
+      sealer = c.open_in_place.ensures.sealer;
+    }
+
+-- nothing of it is
+pub returns-in_default-open_in_place-clause-nothing : goal.returns-in_default-open_in_place-clause-nothing
+returns-in_default-open_in_place-clause-nothing g c =
+    let arrival = c.in-Some.arrival in
+    inl (record {
+      from = arrival.from;
+      wire = take arrival.count c.receive.new.buffer;
+      below = λ honest.
+          let is : g.P.Port.acts c.receive.new.self ≡ came arrival.from (take arrival.count c.receive.new.buffer) ∷ g.P.Port.acts c.args.self.now.port = search rules in
+          subst (λ p. g.P.Port.acts p ≡ came arrival.from (take arrival.count c.receive.new.buffer) ∷ g.P.Port.acts c.args.self.now.port) (sym c.open_in_place.ensures.port) is;
+      drops = c.in_default-open_in_place.ensures.drops;
+      sealer = c.open_in_place.ensures.sealer;
+    })
+
+-- it received none
+pub returns-in_default-clause-nothing : goal.returns-in_default-clause-nothing
+returns-in_default-clause-nothing g c = inr (record { below = λ honest. search rules; others = refl })
