@@ -1,0 +1,69 @@
+-- A header write, as its code has it: what it is of what FILE had at first.
+use Rattle.std.proofs.Common.{◌≡◌, ℕ, ◌+◌, ◌≤◌, List, length, sym, subst, ◌∙◌, ap}
+use Rattle.fw_undo.specs.Write.{Write, IsWrite}
+use Rattle.fw_undo.specs.Cut.{IsOn, after_of}
+use Rattle.fw_undo.specs.Laws.{OneWrite, EachCutIsMended, OneSectorIsWhole}
+use Rattle.fw_cuts.specs.Both.{Both}
+use Rattle.fw_cuts.specs.Cuts.{Seen, Goes, Stays, IsSynced, NoneLost}
+use Rattle.fw_cuts.specs.Rest.{write_on, IsReadyFor, IsAtRest, IsOldOrNew}
+use Rattle.fw_cuts.specs.Private.{SameStore, SameJournal, Lays}
+use Rattle.fw_cuts.specs.declared.files.Part.{Part}
+use Rattle.fw_cuts.specs.declared.files.Part.TheVariants.{Store, Journal}
+use Rattle.fw_cuts.proofs.Goings.{stays, store_stays, store_synced, journal_synced}
+use Rattle.fw_cuts.proofs.Found.{on_written}
+use Rattle.fw_cuts.proofs.Cutting.{in_preparing, in_writing}
+use Rattle.fw_cuts.proofs.Resting.{header_written}
+
+-- FILE is synced, from a to b, and read, from b to m; the code has the write u
+module _ (a b m : Seen) (at : ℕ) (bytes : List ℕ) (last_at : ℕ) (last : List ℕ) (syncs : Goes Stays a b) (asks : Goes Stays b m)
+    (u : Write) (u_is : u ≡ write_on b.held.store at bytes last_at last) (fits : IsWrite u) (begins : last_at ≤ length a.held.store) where
+  abbrev w : Write
+  w = write_on a.held.store at bytes last_at last
+
+  u_same : u ≡ w
+  u_same = u_is ∙ ap (λ (x : Both). write_on x.store at bytes last_at last) syncs.reads
+
+  w_fits : IsWrite w
+  w_fits = subst (λ (v : Write). IsWrite v) u_same fits
+
+  w_on : IsOn w a.held.store
+  w_on = on_written a.held.store at bytes last_at last w_fits begins
+
+  reads : Goes Stays a m
+  reads = stays a b m syncs asks
+
+  read_same : m.held.store ≡ a.held.store
+  read_same = ap (λ (x : Both). x.store) reads.reads
+
+  stored : IsSynced Store b → (left : Both) → m.may_leave left → left.store ≡ a.held.store
+  stored synced left may = store_synced b m (store_stays b m asks) synced left may ∙ read_same
+
+  -- the journal is made ready
+  module _ (d : Seen) (readies : Goes SameStore m d) where
+    ready_same : d.held.store ≡ a.held.store
+    ready_same = readies.reads ∙ read_same
+
+    pub ready_synced : IsSynced Store b → IsSynced Store d
+    ready_synced synced = store_synced m d readies (store_synced b m (store_stays b m asks) synced)
+
+    pub on_ready : IsOn u d.held.store
+    on_ready = subst (λ (v : Write). IsOn v d.held.store) (sym u_same) (subst (λ (l : List ℕ). IsOn w l) (sym ready_same) w_on)
+
+    pub done_so : (e : Seen) → e.held.store ≡ after_of u d.held.store → e.held.store ≡ after_of w a.held.store
+    done_so e done = done ∙ ap (λ (v : Write). after_of v d.held.store) u_same ∙ ap (λ (l : List ℕ). after_of w l) ready_same
+
+    module _ (from to : ℕ) (rest : IsAtRest from to a) (synced : IsSynced Store b) (one : OneWrite) (mended : EachCutIsMended) where
+      pub while_preparing : Goes (IsOldOrNew a.held w) a d
+      while_preparing = in_preparing from to a rest w w_fits w_on one mended m reads (stored synced) d readies
+
+      pub while_writing : OneSectorIsWhole → IsReadyFor d.held.journal u → IsSynced Journal d → (e : Seen) → Goes (Lays u d.held.store) d e → Goes (IsOldOrNew a.held w) a e
+      while_writing sector ready journaled e lays =
+          in_writing from to a rest w w_fits w_on one mended m reads (stored synced) d readies
+          (subst (λ (v : Write). IsReadyFor d.held.journal v) u_same ready) journaled sector e
+          (subst (λ (l : List ℕ). Goes (Lays w l) d e) ready_same (subst (λ (v : Write). Goes (Lays v d.held.store) d e) u_same lays))
+
+    pub at_rest_after : (from to : ℕ) → OneWrite → at + length bytes ≤ from → to ≤ last_at → IsReadyFor d.held.journal u → IsSynced Journal d
+        → (e : Seen) → Goes SameJournal d e → ((part : Part) → NoneLost part e) → IsSynced Store e → e.held.store ≡ after_of u d.held.store → IsAtRest from to e
+    at_rest_after from to one before behind ready journaled e goes found written done =
+        header_written from to w a.held.store e one w_fits w_on before behind found written (journal_synced d e goes journaled) (done_so e done)
+        (subst (λ (l : List ℕ). IsReadyFor l w) (sym goes.reads) (subst (λ (v : Write). IsReadyFor d.held.journal v) u_same ready))
