@@ -169,25 +169,33 @@ def receive(head, meter, image):
     wants(got.endswith("00"), f"the reply to an activate is {got}")
 
 
+# Lines of how far a head end is, and of what it goes on with.
+GOING_ON = re.compile(r"going on with campaign \d+ \d+: \d+ live, \d+ done, \d+ failed")
+PROGRESS = re.compile(r"(\d+) live, (\d+) done, (\d+) failed; (\d+) datagrams/s, (\d+) resends, (\d+) strangers, (\d+) faults")
+
+
 def without_notes(said):
-    """The lines of standard error, except those of records behind a shut gate: a head end that is killed in a commit leaves such records."""
-    return [line for line in (said or "").splitlines() if "behind a shut gate" not in line]
+    """The lines of standard error, except those of progress, one each minute, of what a head end goes on with, and of records behind a shut
+    gate: a head end that is killed in a commit leaves such records."""
+    return [line for line in (said or "").splitlines()
+            if "behind a shut gate" not in line and not PROGRESS.fullmatch(line) and not GOING_ON.fullmatch(line)]
 
 
 class HeadEnd:
     """A head end in a process of its own."""
 
-    def __init__(self, folder, *words, head="7", listen="127.0.0.1:0", env=None, terminal=subprocess.PIPE):
+    def __init__(self, folder, *words, head="7", listen="127.0.0.1:0", env=None, terminal=subprocess.PIPE,
+                 out=subprocess.PIPE):
         self.process = subprocess.Popen([*program, "head", "--head", head, "--book", folder / "head.book", "--meters",
                                          folder / "meters.csv", "--listen", listen, *words], env=env,
-                                        stdin=subprocess.DEVNULL, stdout=subprocess.PIPE, stderr=terminal, text=True)
+                                        stdin=subprocess.DEVNULL, stdout=out, stderr=terminal, text=True)
 
     def kill(self):
-        """Kills it, at whatever it does, and returns the lines that it printed. Before that it may have ended with status 0 alone."""
+        """Kills it, at whatever it does, and returns the lines that it printed. Before that it may have ended well, or with a row that failed."""
         self.process.kill()
         out, said = self.process.communicate()
         status = self.process.returncode
-        wants(status in (0, -signal.SIGKILL) and not without_notes(said), f"the head end ended with {status} and {said!r}")
+        wants(status in (0, 4, -signal.SIGKILL) and not without_notes(said), f"the head end ended with {status} and {said!r}")
         return out.splitlines()
 
     def end(self, patience=60):
@@ -200,9 +208,11 @@ class HeadEnd:
         return self.process.returncode, out.splitlines(), without_notes(said)
 
     def over(self, patience=60):
-        """Waits until it ends by itself, with status 0 and nothing on standard error, and returns the lines that it printed."""
+        """Waits until it ends by itself, with nothing on standard error and status 0, or 4 where a row failed, and returns the lines that it
+        printed."""
         status, lines, said = self.end(patience)
-        wants((status, said) == (0, []), f"the head end ends with {status} and {said}")
+        failed = re.fullmatch(r"over done \d+ failed (\d+)", lines[-1] if lines else "")
+        wants(failed and (status, said) == (4 if int(failed[1]) else 0, []), f"the head end ends with {status} and {said}, and printed {lines[-3:]}")
         return lines
 
     @contextlib.contextmanager

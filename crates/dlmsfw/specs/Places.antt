@@ -10,7 +10,7 @@ use Rattle.fw_faults.specs.declared.fault.Fault.TheVariants.{StoreFault, Device,
 use Rattle.fw_cli.specs.declared.meter.MeterFault.{MeterFault}
 use Rattle.dlmsfw.specs.declared.cause.BookPlaces.{BookPlaces}
 use Rattle.dlmsfw.specs.declared.cause.BookPlace.{BookPlace}
-use Rattle.dlmsfw.specs.declared.cause.BookPlace.TheVariants.{Book, HeadListen, Meters, Image, Open, Cancel, HeadCapture}
+use Rattle.dlmsfw.specs.declared.cause.BookPlace.TheVariants.{Book, HeadListen, Meters, Image, Open, Cancel, Campaign, HeadCapture}
 use Rattle.dlmsfw.specs.declared.cause.MeterPlaces.{MeterPlaces}
 use Rattle.dlmsfw.specs.declared.cause.NamedFile.{NamedFile}
 use Rattle.dlmsfw.specs.declared.cause.Place.{Place}
@@ -65,6 +65,11 @@ trace_place_of fault file = None
 abbrev pub book_file : Name → BookPlaces → BookPlace
 book_file name places = Book (record { path = places.book; number = None; name = name })
 
+-- the campaign that is cancelled first, or the one that a cancelling is of
+abbrev pub cancelled_place : Option ℕ → Option ℕ → Option BookPlace
+cancelled_place (Some serial) campaign = Some (Cancel serial)
+cancelled_place None campaign = option_map Campaign campaign
+
 abbrev pub book_place_in : Fault → Name → BookPlaces → Option BookPlace
 book_place_in NoBook name places = Some (book_file name places)
 book_place_in BookExists name places = Some (book_file name places)
@@ -81,7 +86,7 @@ book_place_in (NoAddress meter) name places = option_map Meters places.meters
 book_place_in ImageFault name places = option_map Image places.image
 book_place_in BadSetup name places = option_map Open places.opened
 book_place_in (OpenRefused refusal) name places = option_map Open places.opened
-book_place_in (CancelRefused refusal) name places = option_map Cancel places.cancel
+book_place_in (CancelRefused refusal) name places = cancelled_place places.cancel places.campaign
 book_place_in CaptureFault name places = option_map (λ path. HeadCapture (record { path = path; number = None; name = name })) places.capture
 book_place_in ForeignCapture name places = option_map (λ path. HeadCapture (record { path = path; number = None; name = name })) places.capture
 book_place_in fault name places = None

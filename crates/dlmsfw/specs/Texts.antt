@@ -38,4 +38,5 @@ book_place_text (book.Meters file) = codes "--meters " ++ file.now
 book_place_text (book.Image file) = codes "--image " ++ file.now
 book_place_text (book.Open serial) = codes "--open " ++ decimal serial
 book_place_text (book.Cancel serial) = codes "--cancel " ++ decimal serial
+book_place_text (book.Campaign serial) = codes "--campaign " ++ decimal serial
 book_place_text (book.HeadCapture file) = codes "--capture " ++ file_text file

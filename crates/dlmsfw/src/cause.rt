@@ -7,7 +7,7 @@ ghost use Rattle.dlmsfw.specs.Texts.{book_place_text, file_text, place_text};
 
 use crate::refusal;
 use crate::refusal::Refusal;
-use fw_cli::{HeadOptions, MeterFault, MeterOptions, StatusOptions};
+use fw_cli::{CancelOptions, HeadOptions, MeterFault, MeterOptions, StatusOptions};
 use fw_disk::{Because, Name, Reason};
 use fw_faults::Fault;
 use std::fmt;
@@ -278,6 +278,8 @@ pub(crate) struct BookPlaces<'a> {
     image: Option<&'a str>,
     opened: Option<u32>,
     cancel: Option<u32>,
+    /// The campaign that a cancelling is of.
+    campaign: Option<u32>,
     capture: Option<&'a str>,
 }
 
@@ -295,7 +297,22 @@ impl<'a> BookPlaces<'a> {
             image,
             opened,
             cancel: options.cancel,
+            campaign: None,
             capture: options.capture,
+        }
+    }
+
+    /// Those of these options, and of the campaign that couldn't be cancelled.
+    pub(crate) fn of_cancel(options: &CancelOptions<'a>, campaign: Option<u32>) -> BookPlaces<'a> {
+        BookPlaces {
+            book: options.book,
+            listen: None,
+            meters: None,
+            image: None,
+            opened: None,
+            cancel: None,
+            campaign,
+            capture: None,
         }
     }
 
@@ -308,6 +325,7 @@ impl<'a> BookPlaces<'a> {
             image: None,
             opened: None,
             cancel: None,
+            campaign: None,
             capture: None,
         }
     }
@@ -326,8 +344,10 @@ pub(crate) enum BookPlace<'a> {
     Image(&'a str),
     /// The first campaign that is opened.
     Open(u32),
-    /// The campaign that is cancelled.
+    /// The campaign that is cancelled first.
     Cancel(u32),
+    /// The campaign that is cancelled.
+    Campaign(u32),
     /// The file of the capture.
     HeadCapture(NamedFile<'a>),
 }
@@ -343,6 +363,7 @@ impl fmt::Display for BookPlace<'_> {
             BookPlace::Image(file) => write!(f, "--image {file}"),
             BookPlace::Open(serial) => write!(f, "--open {serial}"),
             BookPlace::Cancel(serial) => write!(f, "--cancel {serial}"),
+            BookPlace::Campaign(serial) => write!(f, "--campaign {serial}"),
             BookPlace::HeadCapture(file) => write!(f, "--capture {file}"),
         }
     }
@@ -375,7 +396,10 @@ pub(crate) fn book_place_of<'a>(
         )),
         Fault::ImageFault => Some(BookPlace::Image(places.image?)),
         Fault::BadSetup | Fault::OpenRefused(_) => Some(BookPlace::Open(places.opened?)),
-        Fault::CancelRefused(_) => Some(BookPlace::Cancel(places.cancel?)),
+        Fault::CancelRefused(_) => match places.cancel {
+            Some(serial) => Some(BookPlace::Cancel(serial)),
+            None => Some(BookPlace::Campaign(places.campaign?)),
+        },
         Fault::CaptureFault | Fault::ForeignCapture => Some(BookPlace::HeadCapture(NamedFile {
             path: places.capture?,
             number: None,

@@ -1,14 +1,17 @@
 //! The program `dlmsfw`: its command line, its exit statuses, and the printing of its faults.
 #![tactic(auto)]
 
-ghost use Rattle.std.specs.Prelude.{◌≡◌, ◌⊎◌, IfErr, IsErr, IsTrue, None, OnOk, false, is_some};
+ghost use Rattle.std.specs.Prelude.{◌≡◌, ◌⊎◌, IfErr, IsErr, IsTrue, None, OnErr, OnOk, false, is_some};
 ghost use Rattle.std.specs.Io.KnownBytes.{Keeps};
 ghost use Rattle.std.specs.Process.{exit_status};
 ghost use Rattle.clap.specs.Values.{kind_of};
 ghost use Rattle.fw_cli.specs.Beginning.{HasLedOut};
+ghost use Rattle.fw_cli.specs.Cancelling.{HasCancelled};
+ghost use Rattle.fw_cli.specs.declared.head.LedOut.TheVariants.{NoneFailed, SomeFailed};
 ghost use Rattle.fw_cli.specs.Faults.{ComesBeforeOutput, IsOfTrace};
 ghost use Rattle.fw_cli.specs.Tracing.{WritesTrace};
 ghost use Rattle.dlmsfw.specs.Status.{EndsAs, EndsParse, EndsWith};
+ghost use Rattle.dlmsfw.specs.declared.Ending.{Ending};
 
 mod cause;
 mod options;
@@ -18,12 +21,14 @@ mod streams;
 use cause::{BookPlaces, MeterPlaces, NamedFile, Place};
 use clap::error::ErrorKind;
 use fw_cli::{
-    AnswerOptions, Ended, HeadOptions, LiveOptions, MeterFault, MeterOptions, NameOptions,
-    RehearseOptions, ReplayOptions, StatusOptions, StoredOptions, run_answer, run_answer_stored,
-    run_head, run_live, run_meter, run_name, run_rehearse, run_replay, run_status, run_trace,
+    AnswerOptions, CancelFault, CancelOptions, Ended, HeadOptions, LedOut, LiveOptions, MeterFault,
+    MeterOptions, NameOptions, RehearseOptions, ReplayOptions, StatusOptions, StoredOptions,
+    run_answer, run_answer_stored, run_cancel, run_head, run_live, run_meter, run_name,
+    run_rehearse, run_replay, run_status, run_trace,
 };
 use fw_disk::{Because, Cause, Name};
 use fw_faults::Fault;
+use fw_host::ProgressOutput;
 use options::{CaptureOption, Invocation, TraceOptions};
 use refusal::Refusal;
 use std::alloc::Global;
@@ -37,6 +42,9 @@ use std::sync::Wait;
 use std::thread::Threads;
 use std::{env, io};
 
+/// The microseconds of a second.
+const SECOND: u64 = 1_000_000;
+
 /// The status of work that is done.
 const GOOD: u8 = 0;
 
@@ -45,6 +53,9 @@ const FAULT: u8 = 1;
 
 /// The status of a wrong command line.
 const WRONG_COMMAND_LINE: u8 = 2;
+
+/// The status of a head end none of whose rows is live, and one of which failed.
+const ROWS_FAILED: u8 = 4;
 
 /// What ends the program before its work is done.
 #[derive(Drop)]
@@ -63,6 +74,8 @@ enum Ending<'a> {
     Book(Because<Fault>, BookPlaces<'a>),
     /// An event of a script was refused, and the command has reported it.
     Refused,
+    /// A row that a head end led failed, and the command has reported it.
+    RowsFailed,
     /// A wrong command line, or one that asks for help or the version.
     CommandLine(clap::Error),
     /// A command line that isn't UTF-8 text.
@@ -145,7 +158,11 @@ fn run_command<
         Invocation::Live(options, to) => live(rt, terminal, options, to),
         Invocation::Trace(options) => trace_to_output(rt, options),
         Invocation::Meter(options) => meter(rt, options),
-        Invocation::Head(options) => head(rt, terminal, &options),
+        Invocation::Head(options, every) => {
+            let progress = progress_on(terminal.is_some(), every);
+            head(rt, progress, &options)
+        }
+        Invocation::Cancel(options) => cancel(rt, &options),
         Invocation::Status(options) => status(rt, options),
     }
 }
@@ -288,19 +305,57 @@ fn meter<'a, R: AllocGlobal + Files<File = File> + Clock + Print + Net + Wait>(
     }
 }
 
+/// Where a head end shows how far it is: on the terminal, if standard error is one, and else in a line each time that so many seconds went by,
+/// or nowhere if that is 0.
+fn progress_on(is_terminal: bool, every: u32) -> ProgressOutput {
+    match (is_terminal, every) {
+        (true, _) => ProgressOutput::Terminal,
+        (false, 0) => ProgressOutput::Hidden,
+        (false, _) => ProgressOutput::Log {
+            every: u64::from(every).saturating_mul(SECOND),
+        },
+    }
+}
+
 /// `head`, until no row is live.
-fn head<'a, R: AllocGlobal + Files<File = File> + Clock + Print + Eprint + Net + Wait, E: Eprint>(
+fn head<'a, R: AllocGlobal + Files<File = File> + Clock + Print + Eprint + Net + Wait>(
     rt: &R,
-    terminal: Option<&E>,
+    progress: ProgressOutput,
     options: &HeadOptions<'a>,
 ) -> Result<(), Ending<'a>>
-    ensures led { OnOk result (HasLedOut options.now) }
+    ensures led { OnOk result (HasLedOut options.now NoneFailed) }
+    ensures failed { IfErr result (λ e. e ≡ Ending.RowsFailed → HasLedOut options.now SomeFailed) }
     ensures stays { OnOk result (options.now.stays ≡ false) }
 {
     let writer = &mut io::writer(rt);
-    match run_head(rt, rt.alloc(), writer, terminal, options) {
-        Ok(()) => Ok(()),
+    match run_head(rt, rt.alloc(), writer, progress, options) {
+        Ok(LedOut::NoneFailed) => Ok(()),
+        Ok(LedOut::SomeFailed) => Err(Ending::RowsFailed),
         Err(because) => Err(Ending::Book(because, BookPlaces::of_head(options))),
+    }
+}
+
+/// `cancel`.
+fn cancel<'a, R: AllocGlobal + Files<File = File> + Print + Eprint>(
+    rt: &R,
+    options: &CancelOptions<'a>,
+) -> Result<(), Ending<'a>>
+    ensures cancelled { OnOk result (HasCancelled options.now) }
+{
+    let writer = &mut io::writer(rt);
+    match run_cancel(rt, rt.alloc(), writer, options) {
+        Ok(()) => Ok(()),
+        Err(ended) => {
+            let CancelFault {
+                fault: error,
+                serial,
+                reason,
+            } = ended;
+            Err(Ending::Book(
+                Because { error, reason },
+                BookPlaces::of_cancel(options, serial),
+            ))
+        }
     }
 }
 
@@ -409,6 +464,7 @@ fn report(rt: &(impl Print + Eprint + Net + Files), ending: Ending<'_>) -> ExitC
             fail_at(rt, because.error, place, refusal)
         }
         Ending::Refused => ExitCode::from(FAULT),
+        Ending::RowsFailed => ExitCode::from(ROWS_FAILED),
         Ending::CommandLine(error) => report_parse(rt, error),
         Ending::NoText => {
             let _ = eprintln!(rt; "error: invalid UTF-8 was detected in one or more arguments");

@@ -1,6 +1,7 @@
 //! The command line of `dlmsfw`, and its help.
 
 mod answer;
+mod cancel;
 mod head;
 mod live;
 mod manual;
@@ -14,8 +15,8 @@ mod trace;
 use clap::error::ErrorKind;
 use clap::{ArgMatches, Command, Error};
 use fw_cli::{
-    AnswerOptions, HeadOptions, LiveOptions, MeterOptions, NameOptions, RehearseOptions,
-    ReplayOptions, StatusOptions, StoredOptions,
+    AnswerOptions, CancelOptions, HeadOptions, LiveOptions, MeterOptions, NameOptions,
+    RehearseOptions, ReplayOptions, StatusOptions, StoredOptions,
 };
 use manual::{CommandOption, Presence, Takes};
 use std::alloc::{AllocError, AllocFailed, Global};
@@ -31,7 +32,9 @@ pub(crate) enum Invocation<'a> {
     Rehearse(RehearseOptions<'a>, CaptureOption<'a>),
     Live(LiveOptions, CaptureOption<'a>),
     Meter(MeterOptions<'a>),
-    Head(HeadOptions<'a>),
+    /// With the seconds from one line of progress to the next, where no terminal shows it.
+    Head(HeadOptions<'a>, u32),
+    Cancel(CancelOptions<'a>),
     Status(StatusOptions<'a>),
     Trace(TraceOptions<'a>),
 }
@@ -48,6 +51,10 @@ pub(crate) struct CaptureOption<'a> {
 enum WrongValue<'a> {
     /// The value of this option is no address with a port.
     NoAddress { option: &'static str, text: &'a str },
+    /// The value of this option is an address of another family than that of --listen.
+    OtherFamily { option: &'static str, text: &'a str },
+    /// The value of this option is no serial number.
+    NoSerial { option: &'static str, text: &'a str },
     /// Memory was refused.
     OutOfMemory,
 }
@@ -82,7 +89,8 @@ Limits:
 Exit status:
   0  the command did all its work
   1  a fault: standard error has `dlmsfw: NAME`
-  2  a wrong command line: standard error says what is wrong";
+  2  a wrong command line: standard error says what is wrong
+  4  `head` alone: no row is live, and a row failed";
 
 /// The command that the words of a command line ask for.
 ///
@@ -99,6 +107,18 @@ pub(crate) fn parse<'a>(alloc: Global, words: &'a [String]) -> Result<Invocation
             )?;
             Err(command.error(ErrorKind::ValueValidation, &message)?)
         }
+        Err(WrongValue::OtherFamily { option, text }) => {
+            let message = format!(in alloc;
+                "invalid value '{text}' for '--{option} <ADDR:PORT>': nothing comes from there to the address of '--listen <ADDR:PORT>', which is of the other family, IPv4 or IPv6"
+            )?;
+            Err(command.error(ErrorKind::ValueValidation, &message)?)
+        }
+        Err(WrongValue::NoSerial { option, text }) => {
+            let message = format!(in alloc;
+                "invalid value '{text}' for '--{option} <SERIAL>': it is no number from 1 to 4294967295"
+            )?;
+            Err(command.error(ErrorKind::ValueValidation, &message)?)
+        }
         Err(WrongValue::OutOfMemory) => Err(Error::from(AllocError)),
     }
 }
@@ -111,6 +131,7 @@ fn found<'a>(
     match matches.subcommand() {
         Some(("meter", given)) => meter::invoked(alloc, given),
         Some(("head", given)) => head::invoked(given),
+        Some(("cancel", given)) => cancel::invoked(alloc, given),
         Some((name, given)) => Ok(invoked(name, given)),
         None => Ok(None),
     }
@@ -148,6 +169,7 @@ fn dlmsfw<'a>(alloc: Global) -> Result<Command<'a>, AllocError> {
         .subcommand(live::command(alloc)?)?
         .subcommand(meter::command(alloc)?)?
         .subcommand(head::command(alloc)?)?
+        .subcommand(cancel::command(alloc)?)?
         .subcommand(status::command(alloc)?)?
         .subcommand(trace::command(alloc)?)
 }

@@ -7,6 +7,7 @@ use Rattle.fw_head.specs.Head.{BeginsWith, Head, cancelled_head}
 use Rattle.fw_journal.specs.declared.file.FileDevice.{FileDevice}
 use Rattle.fw_kept.specs.Head.{book_of, head_of}
 use Rattle.fw_kept.specs.declared.head.KeptHead.{KeptHead}
+use Rattle.fw_rollout.specs.Counting.{counted_of}
 use Rattle.fw_rollout.specs.Daemon.{HasRunOut}
 use Rattle.fw_rollout.specs.declared.daemon.HeadDaemon.{HeadDaemon}
 use Rattle.fw_rollout.specs.declared.link.Listed.{Listed}
@@ -14,8 +15,9 @@ use Rattle.fw_host.specs.Lists.{SpellsList}
 use Rattle.fw_host.specs.Openings.{ArePartsOf, OpensPart, OpensParts, listed_meters}
 use Rattle.fw_host.specs.declared.head_opening.Opening.{Opening}
 use Rattle.fw_host.specs.declared.head_opening.part.Part.{Part}
-use Rattle.fw_cli.specs.Beginning.{Begins, HasLedOut, IsDaemonOf, IsOpeningOf, OpensThem, cancelled_first}
+use Rattle.fw_cli.specs.Beginning.{Begins, HasLedOut, HasLedTo, IsDaemonOf, IsOpeningOf, OpensThem, cancelled_first}
 use Rattle.fw_cli.specs.declared.head.HeadOptions.{HeadOptions}
+use Rattle.fw_cli.specs.declared.head.LedOut.{LedOut}
 use Rattle.fw_cli.specs.declared.head.Opened.{Opened}
 
 -- one more is opened, after the others
@@ -61,10 +63,11 @@ pub opening_none : (asked : Option Opening) (list : List Listed) → asked ≡ N
 opening_none asked list none = subst (λ (o : Option Opening). IsOpeningOf o list None) (sym none) refl
 
 -- what a head end did that led its rows to their ends
-pub led_out : (options : HeadOptions) (text : List ℕ) (list : List Listed) (opened taken : Option Opened) (found kept : KeptHead FileDevice) (daemon last : HeadDaemon FileDevice)
-    → SpellsList text list → IsOpeningOf options.opening list opened → taken ≡ opened → (book_of found).head ≡ options.head → BeginsWith (book_of found) options.width (head_of found)
-    → Begins options.cancel taken (head_of found) (head_of kept) → IsDaemonOf kept list options.timing daemon → HasRunOut last → HasLedOut options
-led_out options text list opened taken found kept daemon last spelled opening same number width begun made ran_out = record {
+pub led_out : (options : HeadOptions) (text : List ℕ) (list : List Listed) (opened taken : Option Opened) (found kept : KeptHead FileDevice) (daemon last : HeadDaemon FileDevice) (led : LedOut)
+    → SpellsList options.listen text list → IsOpeningOf options.opening list opened → taken ≡ opened → (book_of found).head ≡ options.head → BeginsWith (book_of found) options.width (head_of found)
+    → Begins options.cancel taken (head_of found) (head_of kept) → IsDaemonOf kept list options.timing daemon → HasRunOut last → HasLedTo (counted_of last).failed led
+    → HasLedOut options led
+led_out options text list opened taken found kept daemon last led spelled opening same number width begun made ran_out ended = record {
   text = text;
   list = list;
   spelled = spelled;
@@ -79,4 +82,5 @@ led_out options text list opened taken found kept daemon last spelled opening sa
   made = made;
   last = last;
   ran_out = ran_out;
+  ended = ended;
 }

@@ -9,6 +9,7 @@ pub mod Scripted
 pub mod Turns
 pub mod HeadLeading
 pub mod Begun
+pub mod Cancels
 pub mod Captured
 pub mod Sayings
 pub mod Fleeting

@@ -1,9 +1,10 @@
 -- Public vocabulary: what `head` cancels and opens before it leads, and which head end it leads, and how.
-use Rattle.std.specs.Prelude.{◌≡◌, ℕ, List, Option, None, Some}
+use Rattle.std.specs.Prelude.{◌≡◌, ◌≢◌, ℕ, List, Option, None, Some}
 use Rattle.fw_head.specs.Head.{BeginsWith, Head, cancelled_head}
 use Rattle.fw_journal.specs.declared.file.FileDevice.{FileDevice}
 use Rattle.fw_kept.specs.Head.{book_of, head_of}
 use Rattle.fw_kept.specs.declared.head.KeptHead.{KeptHead}
+use Rattle.fw_rollout.specs.Counting.{counted_of}
 use Rattle.fw_rollout.specs.Daemon.{HasRunOut, kept_of, meters_of, timing_of}
 use Rattle.fw_rollout.specs.declared.daemon.HeadDaemon.{HeadDaemon}
 use Rattle.fw_rollout.specs.declared.link.Listed.{Listed}
@@ -12,6 +13,8 @@ use Rattle.fw_host.specs.Lists.{SpellsList}
 use Rattle.fw_host.specs.Openings.{ArePartsOf, OpensParts, listed_meters}
 use Rattle.fw_host.specs.declared.head_opening.Opening.{Opening}
 use Rattle.fw_cli.specs.declared.head.HeadOptions.{HeadOptions}
+use Rattle.fw_cli.specs.declared.head.LedOut.{LedOut}
+use Rattle.fw_cli.specs.declared.head.LedOut.TheVariants as led
 use Rattle.fw_cli.specs.declared.head.Opened.{Opened}
 
 -- ---- what is asked of the book
@@ -44,13 +47,18 @@ pub record IsDaemonOf {D : Type 0} (kept : KeptHead D) (list : List Listed) (tim
   pub asks : meters_of daemon ≡ list
   pub waits : timing_of daemon ≡ timing
 
+-- how rows ended of which so many failed
+abbrev pub HasLedTo : ℕ → LedOut → Type 0
+HasLedTo failed led.NoneFailed = failed ≡ 0
+HasLedTo failed led.SomeFailed = failed ≢ 0
+
 -- What `head` did with these options. The meters are those of a list, and the head end has the number and the width of the options and began
--- with a book. What the options cancel and open was cancelled and opened. Its daemon asks these meters as the options say, and no row is live
--- any more, nor does one wait to be put on the device.
-pub record HasLedOut (options : HeadOptions) : Type 0 where
+-- with a book. What the options cancel and open was cancelled and opened. A daemon was made of that which asks these meters as the options
+-- say. Of `last`, which the code leads it to, no row is live and none waits to be put on the device, and it counted whether rows failed.
+pub record HasLedOut (options : HeadOptions) (led : LedOut) : Type 0 where
   pub text : List ℕ
   pub list : List Listed
-  pub spelled : SpellsList text list
+  pub spelled : SpellsList options.listen text list
   pub opened : Option Opened
   pub opening : IsOpeningOf options.opening list opened
   pub found : KeptHead FileDevice
@@ -62,3 +70,4 @@ pub record HasLedOut (options : HeadOptions) : Type 0 where
   pub made : IsDaemonOf kept list options.timing daemon
   pub last : HeadDaemon FileDevice
   pub ran_out : HasRunOut last
+  pub ended : HasLedTo (counted_of last).failed led

@@ -11,6 +11,7 @@ pub mod Rehearsing
 pub mod Scripts
 pub mod Heads
 pub mod Beginning
+pub mod Cancelling
 pub mod Laws
 -- For private clauses alone: no public clause cites it.
 pub mod Private

@@ -16,22 +16,23 @@ ghost use Rattle.fw_host.specs.Heads.{ComesBeforeLines, IsOfHead, IsOfHeadSetup,
 ghost use Rattle.fw_host.specs.Lists.{SpellsList};
 ghost use Rattle.fw_host.specs.Openings.{ArePartsOf, OpensPart, OpensParts, listed_meters};
 ghost use Rattle.fw_book.specs.Changes.{empty_book};
-ghost use Rattle.fw_cli.specs.Beginning.{Begins, HasLedOut, IsDaemonOf, IsOpeningOf, cancelled_first};
+ghost use Rattle.fw_cli.specs.Beginning.{Begins, HasLedOut, HasLedTo, IsDaemonOf, IsOpeningOf, cancelled_first};
 ghost use Rattle.fw_cli.specs.Judging.{IsJudged};
 ghost use Rattle.fw_cli.specs.Heads.{IsAskedFor, IsOfCancelling, IsOfList, IsOfOpening, IsOfOpeningSetup, IsOfStop};
 ghost use Rattle.fw_cli.specs.Reasons.{reason_of};
 ghost use Rattle.fw_cli.specs.Telling.{TellsChanges, TellsEnded};
 
 use crate::capture_file::{CaptureFile, closing, failure_of, reason_of};
+use crate::going_on::tell_going_on;
 use crate::meter::{Listening, RecordedPort, tell_listening};
 use fw_blocks::Width;
 use fw_book::{Book, BookError};
 use fw_disk::Because;
 use fw_faults::{Fault, Reads, read_input};
 use fw_host::{
-    BookOptions, CapturePort, HeadProgress, Lines, Opening, Part, Strangers, UdpHeadPort, cancel,
-    check_absent, check_addresses, check_cancel, check_parts, kept_head, open_missing, parts_of,
-    read_list,
+    BookOptions, CapturePort, HeadProgress, Lines, Opening, Part, ProgressOutput, Strangers,
+    UdpHeadPort, cancel, check_absent, check_addresses, check_cancel, check_parts, kept_head,
+    open_missing, parts_of, read_list,
 };
 use fw_journal::{FileDevice, JournalDevice};
 use fw_kept::KeptHead;
@@ -76,6 +77,28 @@ pub struct HeadOptions<'a> {
     pub captures_strangers: bool,
 }
 
+/// How the rows ended that a head end led, once none is live.
+#[derive(Clone, Copy, PartialEq, Eq, Debug)]
+pub enum LedOut {
+    /// None of them failed.
+    NoneFailed,
+    /// One of them failed at least.
+    SomeFailed,
+}
+
+impl LedOut {
+    /// With so many failed ones.
+    fn of(failed: u64) -> LedOut
+        ensures { HasLedTo failed result }
+    {
+        if failed == 0 {
+            LedOut::NoneFailed
+        } else {
+            LedOut::SomeFailed
+        }
+    }
+}
+
 /// The head end leads each live row of its book to its end. It may be ended at any moment, and goes on there when it is run again.
 ///
 /// Where a capture is asked for, its file is gone on with, or made where no file is there. It gets the start of the process, and what is received
@@ -87,8 +110,8 @@ pub struct HeadOptions<'a> {
 ///
 /// The writer gets the line `listening ..`, once datagrams are received, `cancelled ..` and `opened ..` for each campaign, `row ..` for each
 /// row that ended, each once the disk has it, and `over ..` at the end. Each is flushed. After the first, a line that can't be written is
-/// lost. How far it is, is shown on the terminal, if there is one. Standard error is told of records that the book lacks, and of the file
-/// that keeps them ([`kept_head`]).
+/// lost. How far it is, is shown on standard error as `progress` says. Standard error is told of records that the book lacks, and of the file
+/// that keeps them ([`kept_head`]), and then of each campaign that has live rows from an earlier run.
 ///
 /// # Errors
 ///
@@ -97,7 +120,7 @@ pub struct HeadOptions<'a> {
 /// - `ListFault`: the list can't be read. `BadList`: this line is none of a list.
 /// - `ImageFault`: the image can't be read. `OpenRefused` with `ImageTooLong`: it has more than 64 MiB.
 /// - `BadSetup`: the campaigns that are opened need greater serial numbers than there are, or begin at 0, which is none.
-/// - `Socket`: the address can't be received at. Or the socket failed 1,000 times in a row while the head end led.
+/// - `Socket`: the address can't be received at. Or the socket failed 1,000 times in a row while the head end led, or the system had no time.
 /// - `NoBook`, `BookExists`, `Locked`, `BadBook`, `BadRecord`, `ForeignHead`: the file has no book that this head end may begin with. It is
 ///   left as it is, or as a journal of the same records.
 /// - `NoAddress`: the meter of this number has a live row in the book, and isn't in the list. Rows that are cancelled first need no address.
@@ -111,15 +134,15 @@ pub struct HeadOptions<'a> {
 ///
 /// Up to `ForeignCapture` nothing was sent, the book has the records of before, and no new one is made. So it is at `CancelRefused`, and at
 /// `OpenRefused` if nothing is cancelled first. Up to `OpenRefused` nothing was sent.
-pub fn run_head<R: Files<File = File> + Clock + Eprint + Net + Wait, W: Write, E: Eprint>(
+pub fn run_head<R: Files<File = File> + Clock + Eprint + Net + Wait, W: Write>(
     rt: &R,
     alloc: Global,
     writer: &mut W,
-    terminal: Option<&E>,
+    progress: ProgressOutput,
     options: &HeadOptions<'_>,
-) -> Result<(), Because<Fault>>
-    // Where it ends well, it did what the options ask for, and the rows of the head end that it led have ended.
-    ensures led { OnOk result (HasLedOut options.now) }
+) -> Result<LedOut, Because<Fault>>
+    // Where it ends well, what the options ask for was cancelled and opened, and no row of a daemon is live, which says how its rows ended.
+    ensures led { IfOk result (HasLedOut options.now) }
 
     // Where it stays, it ends by a fault alone.
     ensures stays { OnOk result (options.now.stays ≡ false) }
@@ -136,6 +159,7 @@ pub fn run_head<R: Files<File = File> + Clock + Eprint + Net + Wait, W: Write, E
     } = set_up(rt, alloc, options)?;
     let strangers = strangers_of(alloc, options, asked.list.meters())?;
     tell_listening(alloc, writer, at)?;
+    tell_going_on(rt, kept.head().view().book);
     let mut lines = Lines::new(alloc, writer);
     begin(alloc, &mut lines, &mut kept, asked.opened.take(), options)?;
     let mut daemon = daemon_of(alloc, kept, &asked.list, options)?;
@@ -146,8 +170,8 @@ pub fn run_head<R: Files<File = File> + Clock + Eprint + Net + Wait, W: Write, E
         file,
         capture: options.capture,
     };
-    match lead(rt, alloc, &mut lines, terminal, port, &mut daemon, options) {
-        Ok(()) => Ok(()),
+    match lead(rt, alloc, &mut lines, progress, port, &mut daemon, options) {
+        Ok(led) => Ok(led),
         Err(because) => Err(of_book(because, daemon.device())),
     }
 }
@@ -166,7 +190,7 @@ fn daemon_of(
 }
 
 /// A fault of a head end whose book is on this device. A fault of the book gets the cause of the device.
-fn of_book(because: Because<Fault>, device: &FileDevice) -> Because<Fault>
+pub(crate) fn of_book(because: Because<Fault>, device: &FileDevice) -> Because<Fault>
     ensures fault { result.error ≡ because.error }
     ensures book { because.error ≡ Fault.BookFault → result.reason ≡ reason_of (cause_of device.now) }
     ensures others { because.error ≢ Fault.BookFault → result.reason ≡ because.reason }
@@ -234,7 +258,7 @@ fn set_up<R: Files<File = File> + Clock + Eprint + Net>(
     alloc: Global,
     options: &HeadOptions<'_>,
 ) -> Result<Ready, Because<Fault>>
-    ensures list { IfOk result (λ ready. (text : List ℕ) × SpellsList text ready.asked.list) }
+    ensures list { IfOk result (λ ready. (text : List ℕ) × SpellsList options.now.listen text ready.asked.list) }
     ensures opening { IfOk result (λ ready. IsOpeningOf options.now.opening ready.asked.list ready.asked.opened) }
     ensures opened { IfOk result (λ ready. IsTrue (is_some ready.asked.opened) → IsTrue (is_some options.now.opening)) }
     ensures number { IfOk result (λ ready. (book_of ready.kept).head ≡ options.now.head) }
@@ -261,7 +285,7 @@ fn asked_of<F: Files<File = File> + Net>(
     alloc: Global,
     options: &HeadOptions<'_>,
 ) -> Result<Asked, Fault>
-    ensures list { IfOk result (λ asked. (text : List ℕ) × SpellsList text asked.list) }
+    ensures list { IfOk result (λ asked. (text : List ℕ) × SpellsList options.now.listen text asked.list) }
     ensures opening { IfOk result (λ asked. IsOpeningOf options.now.opening asked.list asked.opened) }
     ensures opened { IfOk result (λ asked. IsTrue (is_some asked.opened) → IsTrue (is_some options.now.opening)) }
     ensures asked { IfErr result (IsAskedFor options.now) }
@@ -389,7 +413,7 @@ fn list_of_file<F: Files<File = File> + Net>(
     path: &str,
     own: SocketAddr,
 ) -> Result<MeterList, Fault>
-    ensures list { IfOk result (λ list. (text : List ℕ) × SpellsList text list) }
+    ensures list { IfOk result (λ list. (text : List ℕ) × SpellsList own text list) }
     ensures faults { IfErr result IsOfList }
 {
     let text = bytes_of_file(rt, alloc, path, Fault::ListFault, Fault::ListFault)?;
@@ -509,7 +533,7 @@ fn cancel_first<W: Write>(
 }
 
 /// Cancels the campaign of this serial number, and writes its line once that is on the device.
-fn cancel_one<W: Write>(
+pub(crate) fn cancel_one<W: Write>(
     alloc: Global,
     lines: &mut Lines<'_, W>,
     kept: &mut KeptHead<FileDevice>,
@@ -597,19 +621,20 @@ fn open_one<W: Write>(
 
 /// Leads the rows to their ends, and writes how many ended how. It returns `Ok` once none is live and all that ended is on the device, and
 /// never where it stays. Why a book failed the device knows.
-fn lead<R: Clock + Wait, W: Write, E: Eprint, D: JournalDevice + Drop>(
+fn lead<R: Clock + Eprint + Wait, W: Write, D: JournalDevice + Drop>(
     rt: &R,
     alloc: Global,
     lines: &mut Lines<'_, W>,
-    terminal: Option<&E>,
+    output: ProgressOutput,
     port: RecordedPort<'_>,
     daemon: &mut HeadDaemon<D>,
     options: &HeadOptions<'_>,
-) -> Result<(), Because<Fault>>
+) -> Result<LedOut, Because<Fault>>
     // It waits for answers, and has as many datagrams out, as the options say.
     requires waits { timing_of daemon.old ≡ options.now.timing }
     ensures over { (now : Leader) → IsLed D.honest D.contents D.may_leave daemon.new now → OnOk result (IsOver now) }
     ensures ran_out { OnOk result (HasRunOut daemon.new) }
+    ensures ended { IfOk result (HasLedTo (counted_of daemon.new).failed) }
     ensures stays { OnOk result (options.now.stays ≡ false) }
     ensures asked { IfErr result (λ b. IsOfCapture b.error → IsTrue (is_some port.entry.capture)) }
     ensures faults { IfErr result (λ b. IsOfStop b.error) }
@@ -623,8 +648,9 @@ fn lead<R: Clock + Wait, W: Write, E: Eprint, D: JournalDevice + Drop>(
     } = port;
     let recorder = file.as_mut();
     let recorded = CapturePort::of_head(rt, alloc, &mut socket, at, &mut strangers, recorder);
-    let mut port = UdpHeadPort::new(rt, recorded, lines);
-    let mut progress = HeadProgress::new(terminal);
+    let clears = output == ProgressOutput::Terminal;
+    let mut port = UdpHeadPort::new(rt, recorded, lines, clears);
+    let mut progress = HeadProgress::new(rt, output);
     let led = lead_told(rt, &mut port, daemon, options.stays, &mut progress);
     drop(progress);
     let has_failed = port.has_failed();
@@ -634,17 +660,18 @@ fn lead<R: Clock + Wait, W: Write, E: Eprint, D: JournalDevice + Drop>(
         Err(Stop::Closed) => return Err(closing(capture, has_failed, failure_of(file.as_ref()))),
         Err(stop) => return Err(Because::from(Fault::from(stop))),
     }
-    lines.tell_over(daemon.counts());
-    Ok(())
+    let counts = daemon.counts();
+    lines.tell_over(counts);
+    Ok(LedOut::of(counts.failed))
 }
 
 /// Leads the rows to their ends over this port, and writes the line of each row that ended, once and in order. It returns as `serve_head` does.
-fn lead_told<R: Clock + Wait, W: Write, V: Sink + Drop, E: Eprint, D: JournalDevice + Drop>(
+fn lead_told<R: Clock + Eprint + Wait, W: Write, V: Sink + Drop, D: JournalDevice + Drop>(
     rt: &R,
     port: &mut UdpHeadPort<'_, '_, R, W, V>,
     daemon: &mut HeadDaemon<D>,
     stays: bool,
-    progress: &mut HeadProgress<'_, E>,
+    progress: &mut HeadProgress<'_, R>,
 ) -> Result<(), Stop>
     ensures over { (now : Leader) → IsLed D.honest D.contents D.may_leave daemon.new now → OnOk result (IsOver now) }
     ensures ran_out { OnOk result (HasRunOut daemon.new) }

@@ -2,9 +2,11 @@
 #![tactic(auto)]
 
 mod answer;
+mod cancel;
 mod capture;
 mod capture_file;
 mod fleet;
+mod going_on;
 mod head;
 mod judged;
 pub mod laws;
@@ -21,7 +23,8 @@ mod trace;
 mod workers;
 
 pub use answer::{AnswerOptions, run_answer};
-pub use head::{HeadOptions, run_head};
+pub use cancel::{CancelFault, CancelOptions, run_cancel};
+pub use head::{HeadOptions, LedOut, run_head};
 pub use live::{LiveOptions, run_live};
 pub use meter::{MeterFault, MeterOptions, run_meter};
 pub use name::{NameOptions, run_name};

@@ -1,6 +1,6 @@
 -- The meters of a list: records of comma-separated values, and their fields.
 use Rattle.std.proofs.Common.{Bor, ◌≡◌, ℕ, zero, suc, ◌<◌, Bool, true, false, List, [], ◌∷◌, ◌++◌, length, Option, Some, None, refl, sym, ap, subst, ◌∙◌, arith, inl, inr, append_assoc}
-use Rattle.std.specs.Prelude.{◌⊎◌, IsUtf8, MatchOption, if◌then◌else◌}
+use Rattle.std.specs.Prelude.{◌⊎◌, IfSome, IsUtf8, MatchOption, if◌then◌else◌}
 use Rattle.std.specs.declared.net.socket_addr.SocketAddr.{SocketAddr}
 use Rattle.std.proofs.lemmas.Bool.{false≢true}
 use Rattle.csv.specs.Machine.{Read, ends_at_end, field_after, fields_after, is_end, next_record, step}
@@ -19,7 +19,7 @@ use Rattle.std.specs.Net.Grammar.{IsSocketText}
 use Rattle.std.specs.Str.Parse.{digits_value, without_leading_plus}
 use Rattle.std.proofs.NetLemmas.Theorems.{IsSocketText_unique}
 use Rattle.csv.specs.Records.{AllText, field_at}
-use Rattle.fw_host.specs.Lists.{IsAddressOf, IsNoAddress, IsNoList, NamesHost, SpellsAll, SpellsList, SpellsListed, SpellsNumber}
+use Rattle.fw_host.specs.Lists.{CanBeAsked, IsAddressOf, IsNoAddress, IsNoList, NamesHost, SpellsAll, SpellsList, SpellsListed, SpellsNumber}
 
 -- ---- records
 
@@ -67,12 +67,12 @@ records_within config (suc n) s text short = from_next config n s text (next_rec
 pub all_records : (config : Config) (s : State) (text : List ℕ) → (rows : List (List (List ℕ))) × AreRecords config s text rows
 all_records config s text = records_within config (suc (length text)) s text (omega arith)
 
-pub spells_more : (records : List (List (List ℕ))) (list : List Listed) (fields : List (List ℕ)) (at : Listed) → SpellsAll records list → SpellsListed fields at
-    → SpellsAll (records ++ fields ∷ []) (list ++ at ∷ [])
-spells_more [] [] fields at all one = (one, tt)
-spells_more [] (first ∷ list) fields at all one = absurd all
-spells_more (row ∷ records) [] fields at all one = absurd all
-spells_more (row ∷ records) (first ∷ list) fields at all one = (all.0, spells_more records list fields at all.1 one)
+pub spells_more : (own : SocketAddr) (records : List (List (List ℕ))) (list : List Listed) (fields : List (List ℕ)) (at : Listed) → SpellsAll own records list → SpellsListed own fields at
+    → SpellsAll own (records ++ fields ∷ []) (list ++ at ∷ [])
+spells_more own [] [] fields at all one = (one, tt)
+spells_more own [] (first ∷ list) fields at all one = absurd all
+spells_more own (row ∷ records) [] fields at all one = absurd all
+spells_more own (row ∷ records) (first ∷ list) fields at all one = (all.0, spells_more own records list fields at all.1 one)
 
 -- ---- fields
 
@@ -88,10 +88,10 @@ all_text : (number address : List ℕ) → IsUtf8 number → IsUtf8 address → 
 unfolding AllText
 all_text number address a b = (a, (b, tt))
 
-pub spells_listed : (fields : List (List ℕ)) (number address : List ℕ) (at : Listed) → length fields ≡ 2
+pub spells_listed : (own : SocketAddr) (fields : List (List ℕ)) (number address : List ℕ) (at : Listed) → length fields ≡ 2
     → (field_at fields 0 ≡ Some number) × IsUtf8 number → (field_at fields 1 ≡ Some address) × IsUtf8 address
-    → SpellsNumber number at.meter → IsAddressOf address at.address → SpellsListed fields at
-spells_listed fields number address at two first second is_number is_address =
+    → SpellsNumber number at.meter → IsAddressOf address at.address × CanBeAsked own at.address → SpellsListed own fields at
+spells_listed own fields number address at two first second is_number is_address =
     let same = two_fields fields number address two first.0 second.0 in
     record {
       number = number;
@@ -99,11 +99,12 @@ spells_listed fields number address at two first second is_number is_address =
       two = same;
       text = rw same (all_text number address first.1 second.1);
       is_number = is_number;
-      is_address = is_address;
+      is_address = is_address.0;
+      is_asked = is_address.1;
     }
 
 -- what a line of a list has in its fields
-pub record HasFields (fields : List (List ℕ)) (at : Listed) : Type 0 where
+pub record HasFields (own : SocketAddr) (fields : List (List ℕ)) (at : Listed) : Type 0 where
   pub number : List ℕ
   pub address : List ℕ
   pub two : length fields ≡ 2
@@ -113,10 +114,11 @@ pub record HasFields (fields : List (List ℕ)) (at : Listed) : Type 0 where
   pub address_is_text : IsUtf8 address
   pub is_number : SpellsNumber number at.meter
   pub is_address : IsAddressOf address at.address
+  pub is_asked : CanBeAsked own at.address
 
-pub has_fields : (fields : List (List ℕ)) (at : Listed) → SpellsListed fields at → HasFields fields at
+pub has_fields : (own : SocketAddr) (fields : List (List ℕ)) (at : Listed) → SpellsListed own fields at → HasFields own fields at
 unfolding AllText field_at
-has_fields fields at spells =
+has_fields own fields at spells =
     let text : AllText (spells.number ∷ spells.address ∷ []) = subst AllText spells.two spells.text in
     record {
       number = spells.number;
@@ -128,6 +130,7 @@ has_fields fields at spells =
       address_is_text = text.1.0;
       is_number = spells.is_number;
       is_address = spells.is_address;
+      is_asked = spells.is_asked;
     }
 
 listed_of : ℕ → SocketAddr → Listed
@@ -142,44 +145,62 @@ one_address : (text : List ℕ) (a b : SocketAddr) → IsSocketText text a → I
 one_address text a b spells (inl other) = IsSocketText_unique text a b spells other
 one_address text a b spells (inr none) = absurd (none a spells)
 
-one_listed : (fields : List (List ℕ)) (a b : Listed) (x : SpellsListed fields a) → IsSocketText x.address a.address → SpellsListed fields b → a ≡ b
-one_listed fields a b x spells y =
+one_listed : (own : SocketAddr) (fields : List (List ℕ)) (a b : Listed) (x : SpellsListed own fields a) → IsSocketText x.address a.address → SpellsListed own fields b → a ≡ b
+one_listed own fields a b x spells y =
     let same : x.number ∷ x.address ∷ [] ≡ y.number ∷ y.address ∷ [] = sym x.two ∙ y.two in
     let numbers : x.number ≡ y.number = cc same in
     let addresses : x.address ≡ y.address = cc same in
     same_listed a b (x.is_number.value ∙ ap (λ text. digits_value 10 (without_leading_plus text)) numbers ∙ sym y.is_number.value)
     (one_address y.address a.address b.address (subst (λ text. IsSocketText text a.address) addresses spells) y.is_address)
 
-one_or_host : (fields : List (List ℕ)) (a : Listed) (x : SpellsListed fields a) → IsAddressOf x.address a.address
-    → NamesHost fields ⊎ ((b : Listed) → SpellsListed fields b → a ≡ b)
-one_or_host fields a x (inl spells) = inr (λ b y. one_listed fields a b x spells y)
-one_or_host fields a x (inr none) = inl (record { number = x.number; address = x.address; two = x.two; named = none })
+one_or_host : (own : SocketAddr) (fields : List (List ℕ)) (a : Listed) (x : SpellsListed own fields a) → IsAddressOf x.address a.address
+    → NamesHost fields ⊎ ((b : Listed) → SpellsListed own fields b → a ≡ b)
+one_or_host own fields a x (inl spells) = inr (λ b y. one_listed own fields a b x spells y)
+one_or_host own fields a x (inr none) = inl (record { number = x.number; address = x.address; two = x.two; named = none })
 
 -- a line spells one meter at most, or names a host
-pub one_listed_or_host : (fields : List (List ℕ)) (a : Listed) → SpellsListed fields a → NamesHost fields ⊎ ((b : Listed) → SpellsListed fields b → a ≡ b)
-one_listed_or_host fields a x = one_or_host fields a x x.is_address
+pub one_listed_or_host : (own : SocketAddr) (fields : List (List ℕ)) (a : Listed) → SpellsListed own fields a
+    → NamesHost fields ⊎ ((b : Listed) → SpellsListed own fields b → a ≡ b)
+one_listed_or_host own fields a x = one_or_host own fields a x x.is_address
 
--- a text that spells no address, and what the system has for it
-pub looked_up : (text : List ℕ) (found : Option SocketAddr) → IsNoAddress text → MatchOption found (IsNoAddress text) (IsAddressOf text)
-looked_up text None none = none
-looked_up text (Some address) none = inr none
+-- where a text spells an address that can't be asked, it has none that can
+pub none_asked : (own : SocketAddr) (text : List ℕ) (a : SocketAddr) → IsSocketText text a → ¬ CanBeAsked own a
+    → IsNoAddress text ⊎ ((b : SocketAddr) → IsAddressOf text b → ¬ CanBeAsked own b)
+none_asked own text a spells none = inr (λ b is asked. none (subst (CanBeAsked own) (sym (one_address text a b spells is)) asked))
+
+-- what the system has for a text that spells no address
+pub looked_up : (own : SocketAddr) (text : List ℕ) (found : Option SocketAddr) → IsNoAddress text → IfSome found (CanBeAsked own)
+    → MatchOption found (IsNoAddress text ⊎ ((b : SocketAddr) → IsAddressOf text b → ¬ CanBeAsked own b)) (λ b. IsAddressOf text b × CanBeAsked own b)
+looked_up own text None none asked = inl none
+looked_up own text (Some address) none asked = (inr none, asked)
+
+-- a line whose second field has no address that can be asked spells no meter, or names a host
+pub no_address : (own : SocketAddr) (fields : List (List ℕ)) (number address : List ℕ) → length fields ≡ 2 → field_at fields 0 ≡ Some number → field_at fields 1 ≡ Some address
+    → IsNoAddress address ⊎ ((b : SocketAddr) → IsAddressOf address b → ¬ CanBeAsked own b)
+    → NamesHost fields ⊎ ((at : Listed) → ¬ SpellsListed own fields at)
+no_address own fields number address two first second (inl none) =
+    inl (record { number = number; address = address; two = two_fields fields number address two first second; named = none })
+no_address own fields number address two first second (inr none) = inr (λ at spells.
+    let same : spells.number ∷ spells.address ∷ [] ≡ number ∷ address ∷ [] = sym spells.two ∙ two_fields fields number address two first second in
+    let addresses : spells.address ≡ address = cc same in
+    none at.address (subst (λ text. IsAddressOf text at.address) addresses spells.is_address) spells.is_asked)
 
 -- no meter can be added that the line spells, if it names no host
-pub none_added : (fields : List (List ℕ)) (meters : List Listed) (a : Listed) → NamesHost fields ⊎ ((b : Listed) → SpellsListed fields b → a ≡ b)
-    → ¬ IsList (meters ++ a ∷ []) → NamesHost fields ⊎ ((at : Listed) → SpellsListed fields at → ¬ IsList (meters ++ at ∷ []))
-none_added fields meters a (inl host) twice = inl host
-none_added fields meters a (inr one) twice = inr (λ at spells is_list. twice (subst (λ (l : Listed). IsList (meters ++ l ∷ [])) (sym (one at spells)) is_list))
+pub none_added : (own : SocketAddr) (fields : List (List ℕ)) (meters : List Listed) (a : Listed) → NamesHost fields ⊎ ((b : Listed) → SpellsListed own fields b → a ≡ b)
+    → ¬ IsList (meters ++ a ∷ []) → NamesHost fields ⊎ ((at : Listed) → SpellsListed own fields at → ¬ IsList (meters ++ at ∷ []))
+none_added own fields meters a (inl host) twice = inl host
+none_added own fields meters a (inr one) twice = inr (λ at spells is_list. twice (subst (λ (l : Listed). IsList (meters ++ l ∷ [])) (sym (one at spells)) is_list))
 
 -- a line that spells no meter
-pub none_spelled : (fields : List (List ℕ)) (meters : List Listed) → NamesHost fields ⊎ ((at : Listed) → ¬ SpellsListed fields at)
-    → NamesHost fields ⊎ ((at : Listed) → SpellsListed fields at → ¬ IsList (meters ++ at ∷ []))
-none_spelled fields meters (inl host) = inl host
-none_spelled fields meters (inr none) = inr (λ at spells is_list. none at spells)
+pub none_spelled : (own : SocketAddr) (fields : List (List ℕ)) (meters : List Listed) → NamesHost fields ⊎ ((at : Listed) → ¬ SpellsListed own fields at)
+    → NamesHost fields ⊎ ((at : Listed) → SpellsListed own fields at → ¬ IsList (meters ++ at ∷ []))
+none_spelled own fields meters (inl host) = inl host
+none_spelled own fields meters (inr none) = inr (λ at spells is_list. none at spells)
 
 -- ---- the list so far
 
 -- these are the meters of the records that the reader gave so far
-pub record IsRead (text : List ℕ) (reader : Reader (Bor (List ℕ))) (meters : List Listed) : Type 0 where
+pub record IsRead (own : SocketAddr) (text : List ℕ) (reader : Reader (Bor (List ℕ))) (meters : List Listed) : Type 0 where
   pub trim : reader.trim ≡ trim.None
   pub ready : Ready reader
   pub config : reader.config ≡ default_config
@@ -188,13 +209,13 @@ pub record IsRead (text : List ℕ) (reader : Reader (Bor (List ℕ))) (meters :
   pub source : source_of (λ (s : Bor (List ℕ)). Some s.now) reader ≡ Some left
   pub records : List (List (List ℕ))
   pub reached : Reached default_config st.StartRecord (strip_bom text) records reader.state left
-  pub spells : SpellsAll records meters
+  pub spells : SpellsAll own records meters
   pub once : IsList meters
 
-pub record_read : (text : List ℕ) (a b : Reader (Bor (List ℕ))) (meters next : List Listed) (fields : List (List ℕ)) → IsRead text a meters
+pub record_read : (own : SocketAddr) (text : List ℕ) (a b : Reader (Bor (List ℕ))) (meters next : List Listed) (fields : List (List ℕ)) → IsRead own text a meters
     → ReadRecord (λ (s : Bor (List ℕ)). Some s.now) a b true fields → b.first ≡ true → b.flexible ≡ a.flexible → IsList next
-    → (at : Listed) × SpellsListed fields at × (next ≡ meters ++ at ∷ []) → IsRead text b next
-record_read text a b meters next fields is read first flexible once taken =
+    → (at : Listed) × SpellsListed own fields at × (next ≡ meters ++ at ∷ []) → IsRead own text b next
+record_read own text a b meters next fields is read first flexible once taken =
     let (left, source, reached) = rows-more (λ (s : Bor (List ℕ)). Some s.now) a b fields default_config st.StartRecord (strip_bom text) is.left is.records is.config is.source is.reached read in
     let (at, spells, items) = taken in
     record {
@@ -206,7 +227,7 @@ record_read text a b meters next fields is read first flexible once taken =
       source = source;
       records = is.records ++ fields ∷ [];
       reached = reached;
-      spells = rw items (spells_more is.records meters fields at is.spells spells);
+      spells = rw items (spells_more own is.records meters fields at is.spells spells);
       once = once;
     }
 
@@ -219,18 +240,18 @@ read_stops a b (kind.Utf8 position e) explained flexible = absurd (false≢true 
 read_stops a b (kind.Serialize e) explained flexible = absurd explained
 read_stops a b (kind.Deserialize position e) explained flexible = absurd explained
 
-pub list_read : (text : List ℕ) (a b : Reader (Bor (List ℕ))) (meters : List Listed) (fields : List (List ℕ)) → IsRead text a meters
-    → ReadRecord (λ (s : Bor (List ℕ)). Some s.now) a b false fields → SpellsList text meters
-list_read text a b meters fields is read = record {
+pub list_read : (own : SocketAddr) (text : List ℕ) (a b : Reader (Bor (List ℕ))) (meters : List Listed) (fields : List (List ℕ)) → IsRead own text a meters
+    → ReadRecord (λ (s : Bor (List ℕ)). Some s.now) a b false fields → SpellsList own text meters
+list_read own text a b meters fields is read = record {
   records = is.records;
   are = (a.state, is.left, is.reached, rows-end (λ (s : Bor (List ℕ)). Some s.now) a b fields default_config is.left is.config is.source read);
   spells = is.spells;
   once = is.once;
 }
 
-pub no_list : (text : List ℕ) (a b : Reader (Bor (List ℕ))) (meters : List Listed) (fields : List (List ℕ)) → IsRead text a meters
-    → ReadRecord (λ (s : Bor (List ℕ)). Some s.now) a b true fields → NamesHost fields ⊎ ((at : Listed) → SpellsListed fields at → ¬ IsList (meters ++ at ∷ [])) → IsNoList text
-no_list text a b meters fields is read none =
+pub no_list : (own : SocketAddr) (text : List ℕ) (a b : Reader (Bor (List ℕ))) (meters : List Listed) (fields : List (List ℕ)) → IsRead own text a meters
+    → ReadRecord (λ (s : Bor (List ℕ)). Some s.now) a b true fields → NamesHost fields ⊎ ((at : Listed) → SpellsListed own fields at → ¬ IsList (meters ++ at ∷ [])) → IsNoList own text
+no_list own text a b meters fields is read none =
     let (left, source, reached) = rows-more (λ (s : Bor (List ℕ)). Some s.now) a b fields default_config st.StartRecord (strip_bom text) is.left is.records is.config is.source is.reached read in
     let (rest, (last, behind, more, end)) = all_records default_config b.state left in
     record {

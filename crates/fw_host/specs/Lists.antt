@@ -1,8 +1,12 @@
 -- Public vocabulary: lists of meters, as comma-separated values (RFC 4180) without a header line.
-use Rattle.std.specs.Prelude.{◌≡◌, ◌⊎◌, ℕ, ◌<◌, ◌^◌, List, [], ◌∷◌, ◌++◌}
+use Rattle.std.specs.Prelude.{◌≡◌, ◌≢◌, ◌⊎◌, ℕ, ◌<◌, ◌^◌, List, [], ◌∷◌, ◌++◌}
 use Rattle.std.specs.Str.Parse.{IsNumeral, digits_value, without_leading_plus}
+use Rattle.std.specs.declared.net.ip_addr.IpAddr.{IpAddr}
+use Rattle.std.specs.declared.net.ip_addr.IpAddr.TheVariants as ip
 use Rattle.std.specs.declared.net.socket_addr.SocketAddr.{SocketAddr}
+use Rattle.std.specs.Net.Addr.{IsMulticastV4, IsMulticastV6, IsUnspecifiedV4, IsUnspecifiedV6, ipv4_octets, is_ipv4}
 use Rattle.std.specs.Net.Grammar.{IsSocketText}
+use Rattle.std.specs.Net.Socket.{socket_ip, socket_port}
 use Rattle.csv.specs.Reading.{AreRecords, default_config, strip_bom}
 use Rattle.csv.specs.Records.{AllText}
 use Rattle.csv.specs.declared.parser.State.TheVariants as state
@@ -24,14 +28,26 @@ IsNoAddress text = (address : SocketAddr) → ¬ IsSocketText text address
 abbrev pub IsAddressOf : List ℕ → SocketAddr → Type 0
 IsAddressOf text address = IsSocketText text address ⊎ IsNoAddress text
 
--- the fields of a line, in UTF-8: the number of a meter, and the text of its address
-pub record SpellsListed (fields : List (List ℕ)) (at : Listed) : Type 0 where
+-- the address of one host: neither unspecified, multicast nor the limited broadcast (RFC 1122, 3.2.1.3; RFC 4291, 2.5.2 and 2.7)
+abbrev pub IsHost : IpAddr → Type 0
+IsHost (ip.V4 a) = (¬ IsUnspecifiedV4 a) × (¬ IsMulticastV4 a) × (ipv4_octets a ≢ 255 ∷ 255 ∷ 255 ∷ 255 ∷ [])
+IsHost (ip.V6 a) = (¬ IsUnspecifiedV6 a) × (¬ IsMulticastV6 a)
+
+-- a head end at its own address can ask a meter at the other one: it is a host's, of the same family, and its port isn't 0
+pub record CanBeAsked (own address : SocketAddr) : Type 0 where
+  pub port : socket_port address ≢ 0
+  pub family : is_ipv4 (socket_ip address) ≡ is_ipv4 (socket_ip own)
+  pub host : IsHost (socket_ip address)
+
+-- The fields of a line, in UTF-8: the number of a meter, and the text of its address, at which a head end at its own address can ask it.
+pub record SpellsListed (own : SocketAddr) (fields : List (List ℕ)) (at : Listed) : Type 0 where
   pub number : List ℕ
   pub address : List ℕ
   pub two : fields ≡ number ∷ address ∷ []
   pub text : AllText fields
   pub is_number : SpellsNumber number at.meter
   pub is_address : IsAddressOf address at.address
+  pub is_asked : CanBeAsked own at.address
 
 -- two fields, of which the second spells no address
 pub record NamesHost (fields : List (List ℕ)) : Type 0 where
@@ -41,27 +57,27 @@ pub record NamesHost (fields : List (List ℕ)) : Type 0 where
   pub named : IsNoAddress address
 
 -- each record of the text has a meter and its address
-abbrev pub SpellsAll : List (List (List ℕ)) → List Listed → Type 0
-SpellsAll [] [] = Unit {0}
-SpellsAll [] (at ∷ list) = ⊥
-SpellsAll (fields ∷ records) [] = ⊥
-SpellsAll (fields ∷ records) (at ∷ list) = SpellsListed fields at × SpellsAll records list
+abbrev pub SpellsAll : SocketAddr → List (List (List ℕ)) → List Listed → Type 0
+SpellsAll own [] [] = Unit {0}
+SpellsAll own [] (at ∷ list) = ⊥
+SpellsAll own (fields ∷ records) [] = ⊥
+SpellsAll own (fields ∷ records) (at ∷ list) = SpellsListed own fields at × SpellsAll own records list
 
--- the text is a list of these meters, each number and each address once
-pub record SpellsList (text : List ℕ) (list : List Listed) : Type 0 where
+-- the text is a list of these meters for a head end at its own address, each number and each address once
+pub record SpellsList (own : SocketAddr) (text : List ℕ) (list : List Listed) : Type 0 where
   pub records : List (List (List ℕ))
   pub are : AreRecords default_config state.StartRecord (strip_bom text) records
-  pub spells : SpellsAll records list
+  pub spells : SpellsAll own records list
   pub once : IsList list
 
--- A record of the text is the first with which they are no list: it spells no meter, or one whose number or address an earlier one has. Or
--- it names a host, of which the system may have no address, or one that an earlier record has.
-pub record IsNoList (text : List ℕ) : Type 0 where
+-- A record of the text is the first with which they are no list: it spells no meter that can be asked, or one whose number or address an
+-- earlier one has. Or it names a host, of which the system may have no address that can be asked, or one that an earlier record has.
+pub record IsNoList (own : SocketAddr) (text : List ℕ) : Type 0 where
   pub before : List (List (List ℕ))
   pub bad : List (List ℕ)
   pub rest : List (List (List ℕ))
   pub are : AreRecords default_config state.StartRecord (strip_bom text) (before ++ bad ∷ rest)
   pub list : List Listed
-  pub spells : SpellsAll before list
+  pub spells : SpellsAll own before list
   pub once : IsList list
-  pub none : NamesHost bad ⊎ ((at : Listed) → SpellsListed bad at → ¬ IsList (list ++ at ∷ []))
+  pub none : NamesHost bad ⊎ ((at : Listed) → SpellsListed own bad at → ¬ IsList (list ++ at ∷ []))

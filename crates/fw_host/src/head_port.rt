@@ -7,6 +7,7 @@ ghost use Rattle.fw_host.specs.Heads.{ended_line};
 ghost use Rattle.fw_host.specs.Telling.{Told};
 
 use crate::capture_port::CapturePort;
+use crate::head_progress::CLEARED;
 use crate::lines::Lines;
 use crate::port_clock::PortClock;
 use fw_port::{Arrival, Closed, Patience};
@@ -17,21 +18,26 @@ use std::net::SocketAddr;
 use std::rt::Clock;
 
 /// A UDP socket with its capture, a clock and a writer of lines. Nothing is known of what a network does, so it is not honest. But the line
-/// of each row that it is told of is written. It is closed once its clock can't be read, and its time stands still then.
+/// of each row that it is told of is written, on a terminal in place of the progress. It is closed once its clock can't be read, and its time
+/// stands still then.
 #[derive(Drop)]
-pub struct UdpHeadPort<'a, 'w, C: Clock, W: Write, V: Sink + Drop> {
+pub struct UdpHeadPort<'a, 'w, C: Clock + Eprint, W: Write, V: Sink + Drop> {
     rt: &'a C,
     port: CapturePort<'a, C, V>,
     lines: &'a mut Lines<'w, W>,
+    /// Whether standard error is a terminal that shows the progress in a line, which is cleared first.
+    clears: bool,
     clock: PortClock,
 }
 
-impl<'a, 'w, C: Clock, W: Write, V: Sink + Drop> UdpHeadPort<'a, 'w, C, W, V> {
-    /// The time begins now. Nothing is sent, received or written yet.
+impl<'a, 'w, C: Clock + Eprint, W: Write, V: Sink + Drop> UdpHeadPort<'a, 'w, C, W, V> {
+    /// The time begins now. Nothing is sent, received or written yet. Where it `clears`, the line of a terminal that standard error is gets
+    /// cleared before each line.
     pub fn new(
         rt: &'a C,
         port: CapturePort<'a, C, V>,
         lines: &'a mut Lines<'w, W>,
+        clears: bool,
     ) -> UdpHeadPort<'a, 'w, C, W, V>
         ensures port { result.port ≡ port.entry }
         ensures lines { result.lines.ghost_name ≡ lines.entry.ghost_name }
@@ -44,6 +50,7 @@ impl<'a, 'w, C: Clock, W: Write, V: Sink + Drop> UdpHeadPort<'a, 'w, C, W, V> {
             rt,
             port,
             lines,
+            clears,
             clock: PortClock::new(rt),
         }
     }
@@ -119,8 +126,16 @@ impl<'a, 'w, C: Clock, W: Write, V: Sink + Drop> UdpHeadPort<'a, 'w, C, W, V> {
         ensures stands { self.new.clock.failed ≡ true → self.new.clock.time ≡ self.old.clock.time }
         ensures closed { self.old.clock.failed ≡ true → self.new.clock ≡ self.old.clock }
     {
+        self.clear();
         self.lines.tell_ended(ended);
         // Where it fails, nothing is received any more.
         let _ = self.clock.read(self.rt);
+    }
+
+    /// Clears the line of the terminal, if that is asked for. A write that fails is passed over.
+    fn clear(&self) {
+        if self.clears {
+            let _ = eprint!(self.rt; "{CLEARED}");
+        }
     }
 }

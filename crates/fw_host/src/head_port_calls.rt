@@ -8,7 +8,8 @@ use std::io::Write;
 use std::net::SocketAddr;
 use std::rt::Clock;
 
-impl<'a, 'w, C: Clock, W: Write, V: Sink + Drop> Port<Ended> for UdpHeadPort<'a, 'w, C, W, V> {
+impl<'a, 'w, C: Clock + Eprint, W: Write, V: Sink + Drop> Port<Ended>
+    for UdpHeadPort<'a, 'w, C, W, V> {
     ghost use Rattle.std.specs.Prelude.{◌≡◌, false, [], ⊤};
     ghost use Rattle.fw_host.specs.Telling.{Told, lines_of_rows};
 
@@ -40,7 +41,8 @@ impl<'a, 'w, C: Clock, W: Write, V: Sink + Drop> Port<Ended> for UdpHeadPort<'a,
     }
 }
 
-impl<'a, 'w, C: Clock, W: Write, V: Sink + Drop> HeadPort for UdpHeadPort<'a, 'w, C, W, V> {
+impl<'a, 'w, C: Clock + Eprint, W: Write, V: Sink + Drop> HeadPort
+    for UdpHeadPort<'a, 'w, C, W, V> {
     ghost time = { λ p. p.clock.time };
 
     /// The microseconds since the port was made, as it read them last: after what it received last, and after each line.

@@ -35,7 +35,7 @@ pub use head_opening::{
     Opening, Part, cancel, check_cancel, check_parts, is_open, open_missing, open_part, parts_of,
 };
 pub use head_port::UdpHeadPort;
-pub use head_progress::HeadProgress;
+pub use head_progress::{HeadProgress, ProgressOutput};
 pub use lines::Lines;
 pub use meter_lines::listening_line;
 pub use meter_list::read_list;

@@ -3,6 +3,7 @@
 
 ghost use Rattle.std.specs.Prelude.{
   ◌≡◌,
+  ◌↔◌,
   ◌⊎◌,
   ◌++◌,
   ◌∷◌,
@@ -12,8 +13,8 @@ ghost use Rattle.std.specs.Prelude.{
   IfErr,
   IfSome,
   OnOk,
+  IsTrue,
   IsUtf8,
-  MatchBool,
   MatchOption,
   Some,
   option_map,
@@ -23,22 +24,34 @@ ghost use Rattle.csv.specs.Reading.{error_kind, stops_reader};
 ghost use Rattle.csv.specs.Records.{field_at, fields_of};
 ghost use Rattle.fw_rollout.specs.declared.link.Listed.{Listed};
 ghost use Rattle.fw_rollout.specs.Daemon.{IsList};
-ghost use Rattle.fw_host.specs.Lists.{IsAddressOf, IsNoAddress, IsNoList, NamesHost, SpellsList, SpellsListed, SpellsNumber};
+ghost use Rattle.fw_host.specs.Lists.{
+  CanBeAsked,
+  IsAddressOf,
+  IsHost,
+  IsNoAddress,
+  IsNoList,
+  NamesHost,
+  SpellsList,
+  SpellsListed,
+  SpellsNumber,
+};
 
 use csv::{ByteRecord, Error, ReaderBuilder};
 use fw_faults::Fault;
 use fw_names::MeterId;
 use fw_rollout::{Listed, MeterList};
 use std::alloc::Global;
-use std::net::{Net, SocketAddr, ToSocketAddrs};
+use std::net::{IpAddr, Net, SocketAddr, ToSocketAddrs};
 
-/// The meters of a list, each number and each address once. In place of an address may stand the name of a host: its first address of the
-/// family of `own` is taken, IPv4 or IPv6, as the system has it now.
+/// The meters of a list, each number and each address once, for a head end at `own`. In place of an address may stand the name of a host: its
+/// first address that can be asked from there is taken, as the system has it now.
+///
+/// An address can be asked if it is of the family of `own`, IPv4 or IPv6, is that of one host, and has a port.
 ///
 /// # Errors
 ///
-/// - `BadList`: this line has no meter's number and address, or a number or an address that an earlier line has; or the system has no
-///   such address for the name.
+/// - `BadList`: this line has no meter's number and address, or a number or an address that an earlier line has, or an address that can't
+///   be asked; or the system has none for the name that can.
 /// - `OutOfMemory`.
 pub fn read_list<N: Net>(
     net: &N,
@@ -46,8 +59,8 @@ pub fn read_list<N: Net>(
     text: &[u8],
     own: SocketAddr,
 ) -> Result<MeterList, Fault>
-    ensures ok { IfOk result (λ list. SpellsList text.now list) }
-    ensures bad_list { (line : ℕ) → result ≡ Err (Fault.BadList line) → IsNoList text.now }
+    ensures ok { IfOk result (λ list. SpellsList own text.now list) }
+    ensures bad_list { (line : ℕ) → result ≡ Err (Fault.BadList line) → IsNoList own text.now }
     ensures faults { IfErr result (λ f. (f ≡ Fault.OutOfMemory) ⊎ ((line : ℕ) × (f ≡ Fault.BadList line))) }
 {
     let mut reader = ReaderBuilder::new()
@@ -58,7 +71,7 @@ pub fn read_list<N: Net>(
     let mut meters = MeterList::none(alloc);
     for _ in 0..u64::MAX {
         match reader.read_byte_record(&mut record) {
-            Ok(true) => take(net, own, &mut meters, &record)?,
+            Ok(true) => take(net, own, text, &mut meters, &record)?,
             Ok(false) => return Ok(meters),
             Err(error) => return Err(stopped(&error)),
         }
@@ -75,24 +88,25 @@ fn stopped(_error: &Error) -> Fault
     Fault::OutOfMemory
 }
 
-/// Adds the meter of a record.
+/// Adds the meter of a record of this text.
 fn take<N: Net>(
     net: &N,
     own: SocketAddr,
+    text: &[u8],
     meters: &mut MeterList,
     fields: &ByteRecord,
 ) -> Result<(), Fault>
     ensures once { OnOk result (IsList meters.new) }
-    ensures taken { OnOk result ((at : Listed) × SpellsListed (fields_of fields.now) at × (meters.new ≡ meters.old ++ at ∷ [])) }
+    ensures taken { OnOk result ((at : Listed) × SpellsListed own (fields_of fields.now) at × (meters.new ≡ meters.old ++ at ∷ [])) }
     ensures bad_list { (line : ℕ) → result ≡ Err (Fault.BadList line) → NamesHost (fields_of fields.now)
-        ⊎ ((at : Listed) → SpellsListed (fields_of fields.now) at → ¬ IsList (meters.old ++ at ∷ [])) }
+        ⊎ ((at : Listed) → SpellsListed own (fields_of fields.now) at → ¬ IsList (meters.old ++ at ∷ [])) }
 
     // Memory is wanted for a meter alone.
-    ensures memory { result ≡ Err Fault.OutOfMemory → (at : Listed) × SpellsListed (fields_of fields.now) at }
+    ensures memory { result ≡ Err Fault.OutOfMemory → (at : Listed) × SpellsListed own (fields_of fields.now) at }
     ensures faults { IfErr result (λ f. (f ≡ Fault.OutOfMemory) ⊎ ((line : ℕ) × (f ≡ Fault.BadList line))) }
 {
     let Some(at) = listed(net, own, fields) else {
-        return Err(Fault::BadList(line_of(fields)));
+        return Err(Fault::BadList(line_of(text, fields)));
     };
     let is_new = meters.add(at)?;
     // For its clause alone: each number and each address stands once.
@@ -100,22 +114,30 @@ fn take<N: Net>(
     if is_new {
         Ok(())
     } else {
-        Err(Fault::BadList(line_of(fields)))
+        Err(Fault::BadList(line_of(text, fields)))
     }
 }
 
-/// The line at which a record begins.
-fn line_of(fields: &ByteRecord) -> u64 {
-    match fields.position() {
-        Some(position) => position.line(),
-        None => 0,
+/// The line of this text at which a record begins. The reader says where it stood before: the end of a line, and empty lines, may come first.
+fn line_of(text: &[u8], fields: &ByteRecord) -> u64 {
+    let Some(position) = fields.position() else {
+        return 0;
+    };
+    let mut line = position.line();
+    for byte in text.get(position.byte() as usize..).unwrap_or(&[]) {
+        match *byte {
+            b'\n' => line = line.saturating_add(1),
+            b'\r' => {}
+            _ => return line,
+        }
     }
+    line
 }
 
 /// The meter of a record, if it has the two fields of one.
 fn listed<N: Net>(net: &N, own: SocketAddr, fields: &ByteRecord) -> Option<Listed>
-    ensures { MatchOption result (NamesHost (fields_of fields.now) ⊎ ((at : Listed) → ¬ SpellsListed (fields_of fields.now) at))
-        (λ at. SpellsListed (fields_of fields.now) at) }
+    ensures { MatchOption result (NamesHost (fields_of fields.now) ⊎ ((at : Listed) → ¬ SpellsListed own (fields_of fields.now) at))
+        (λ at. SpellsListed own (fields_of fields.now) at) }
 {
     if fields.len() != 2 {
         return None;
@@ -145,24 +167,45 @@ fn meter_of(text: &str) -> Option<MeterId>
     }
 }
 
-/// The address of a text: the one that it spells, or one of the host that it names.
+/// The address of a text at which a head end at `own` can ask a meter: the one that it spells, or one of the host that it names.
 fn address_of<N: Net>(net: &N, own: SocketAddr, text: &str) -> Option<SocketAddr>
-    ensures { MatchOption result (IsNoAddress text.now) (IsAddressOf text.now) }
+    ensures { MatchOption result (IsNoAddress text.now ⊎ ((address : SocketAddr) → IsAddressOf text.now address → ¬ CanBeAsked own address))
+        (λ address. IsAddressOf text.now address × CanBeAsked own address) }
 {
     match text.parse::<SocketAddr>() {
-        Ok(address) => Some(address),
+        Ok(address) if can_be_asked(own, address) => Some(address),
+        Ok(_) => None,
         Err(_) => host_address(net, own, text),
     }
 }
 
-/// The first address of the family of `own` that the system has for the name of a host with a port.
-fn host_address<N: Net>(net: &N, own: SocketAddr, text: &str) -> Option<SocketAddr> {
+/// The first address that the system has for the name of a host with a port, and that a head end at `own` can ask.
+fn host_address<N: Net>(net: &N, own: SocketAddr, text: &str) -> Option<SocketAddr>
+    ensures { IfSome result (CanBeAsked own) }
+{
     for address in text.to_socket_addrs(net).ok()? {
-        if address.is_ipv4() == own.is_ipv4() {
+        if can_be_asked(own, address) {
             return Some(address);
         }
     }
     None
+}
+
+/// Whether a head end at `own` can ask a meter at this address.
+fn can_be_asked(own: SocketAddr, address: SocketAddr) -> bool
+    ensures { IsTrue result ↔ CanBeAsked own address }
+{
+    address.port() != 0 && address.is_ipv4() == own.is_ipv4() && is_host(address.ip())
+}
+
+/// Whether an address is that of one host.
+fn is_host(ip: IpAddr) -> bool
+    ensures { IsTrue result ↔ IsHost ip }
+{
+    match ip {
+        IpAddr::V4(ip) => !(ip.is_unspecified() || ip.is_multicast() || ip.is_broadcast()),
+        IpAddr::V6(ip) => !(ip.is_unspecified() || ip.is_multicast()),
+    }
 }
 
 /// The text of a field.

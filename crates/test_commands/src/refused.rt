@@ -6,30 +6,16 @@ use fw_book::BookError;
 use fw_cli::{HeadOptions, MeterFault, MeterOptions, run_head, run_meter};
 use fw_disk::{Because, Cause, Name};
 use fw_faults::Fault;
-use fw_host::{BookOptions, NewMeter, Opening};
+use fw_host::{BookOptions, NewMeter, Opening, ProgressOutput};
 use fw_names::HeadId;
 use fw_rollout::Timing;
 use std::alloc::Global;
-use std::fmt::Display;
 use std::fs::File;
 use std::net::{Net, SocketAddr};
 use std::rt::{Clock, Files};
 use std::sync::Wait;
 use std::test::Fail;
-use std::{env, fs, io};
-
-/// A terminal that shows nothing.
-struct Silent;
-
-impl Eprint for Silent {
-    fn eprint<D: Display + Drop>(&self, _value: D) -> io::Result<()> {
-        Ok(())
-    }
-
-    fn eprintln<D: Display + Drop>(&self, _value: D) -> io::Result<()> {
-        Ok(())
-    }
-}
+use std::{env, fs};
 
 /// The path of a file of the folder for such files.
 fn place(rt: &HostRuntime, name: &str) -> Result<String, Fail> {
@@ -155,9 +141,14 @@ fn head_of<'paths, R: Files<File = File> + Clock + Net + Wait + Eprint>(
         capture: None,
         captures_strangers: false,
     };
-    let terminal: Option<&Silent> = None;
-    match run_head(rt, alloc, &mut Vec::new(alloc), terminal, &options) {
-        Ok(()) => Err(Fail::from("it ends well")),
+    match run_head(
+        rt,
+        alloc,
+        &mut Vec::new(alloc),
+        ProgressOutput::Hidden,
+        &options,
+    ) {
+        Ok(_) => Err(Fail::from("it ends well")),
         Err(because) => Ok(because),
     }
 }

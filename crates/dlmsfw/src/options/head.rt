@@ -21,8 +21,9 @@ is live. It may be ended at any moment, and goes on there when it is run again.
 The meters are in LIST, comma-separated values without a header line: a line has the number of a meter
 and its address, as `1,127.0.0.1:4059` or `2,[::1]:4060`, each number and each address once. A name may
 stand for an address, as in `3,meter.example:4061`: it is looked up once, when LIST is read, and its first
-address of the family of --listen is taken, IPv4 or IPv6. A datagram from elsewhere is dropped, and one
-from an address of the list is taken for that meter's.
+address that can be asked is taken. An address can be asked if it is of the family of --listen, IPv4 or
+IPv6, is one host's, and its port isn't 0. A datagram from elsewhere is dropped, and one from an address of
+the list is taken for that meter's.
 
 The book of the head end is in FILE of --book, and stays there for the next run. It is made with --new,
 and only where no such file is there: as FILE.new, which is named FILE once it is whole. So is a new FILE
@@ -62,10 +63,12 @@ the first:
   row HEAD SERIAL METER failed           the row was given up, and the disk has that
   over done D failed F                   no row is live; in this run D rows were done, and F failed
 
-Where standard error is a terminal, it shows each second how many rows are live, and how many of this run
-are done and failed; how many datagrams a second went and came (datagrams/s); and how often in this run a
-row was asked again since no answer came (resends), a datagram came from elsewhere (strangers), and the
-socket failed (faults).
+Of each campaign that has live rows from an earlier run standard error says at the start
+`going on with campaign HEAD SERIAL: L live, D done, F failed`. Then it shows how many rows are live, and
+how many of this run are done and failed; how many datagrams a second went and came (datagrams/s); and how
+often in this run a row was asked again since no answer came (resends), a datagram came from elsewhere
+(strangers), and the socket failed (faults). A terminal shows it in one line, anew each second. Elsewhere
+it is a line each --every SECONDS in which a datagram went or came.
 
 Example, in two terminals, an image for the meter at port 4059:
 
@@ -78,7 +81,7 @@ Example, in two terminals, an image for the meter at port 4059:
 /// What ends the long help.
 const ENDINGS: &str = "\
 Exit status:
-  0  no row is live
+  0  no row is live, and in this run none failed
   1  a fault: standard error has `dlmsfw: NAME`, with one of these names, and a second line with the
      option that it is about. If the cause is known, it goes on with `: ` and the cause, and before it
      the name of the file that is meant, if that is the one beside FILE or CAPTURE:
@@ -86,13 +89,13 @@ Exit status:
        ListFault       LIST can't be opened or read: it isn't there, it is a folder, or this user has no
                        right to it. Or it has more than 64 MiB, without a cause
        BadList L       line L of LIST, counted from 1, has no meter's number and address, or a number
-                       or an address that an earlier line has, or a name that has no address of the
-                       family of --listen
+                       or an address that an earlier line has, or an address that can't be asked, or a
+                       name that has none which can
        ImageFault      the file of --image can't be opened or read, for the same causes
        BadSetup        the campaigns need serial numbers above 4294967295
        Socket          datagrams can't be received at --listen: it is in use, this machine has no such
                        address, or this user has no right to it. Or the socket failed 1000 times in a
-                       row later, without a cause
+                       row later, or the system told no time, without a cause
        NoBook          FILE isn't there, and --new isn't given
        BookExists      FILE is there, and --new is given
        Locked          another head end has FILE
@@ -120,7 +123,8 @@ Exit status:
        Output          the first line can't be written to standard output
        OutOfMemory     the system gives no more memory
      Of a row whose end the disk doesn't have nothing was printed.
-  2  a wrong command line: standard error says what is wrong";
+  2  a wrong command line: standard error says what is wrong
+  4  no row is live, and in this run a row failed, as its line says";
 
 /// The command and its options.
 const MANUAL: &Manual = &Manual {
@@ -181,6 +185,12 @@ const MANUAL: &Manual = &Manual {
             presence: Presence::Optional,
             help: "Goes on where no row is live",
         },
+        CommandOption {
+            name: "every",
+            takes: Takes::Within("SECONDS", 0, 86_400),
+            presence: Presence::Default("60"),
+            help: "Seconds from one line of progress to the next, 0 to 86400, where standard error is no terminal; 0: none",
+        },
         DAEMON_CAPTURE,
         DAEMON_CAPTURE_STRANGERS,
         CommandOption {
@@ -192,8 +202,8 @@ const MANUAL: &Manual = &Manual {
         CommandOption {
             name: "release",
             takes: Takes::Within("R", 0, u32::MAX),
-            presence: Presence::Default("0"),
-            help: "The release of the image, 0 to 4294967295; 0 is none",
+            presence: Presence::With("open"),
+            help: "The release of the image, 0 to 4294967295; 0, which is none, without this option",
         },
         CommandOption {
             name: "image",
@@ -227,14 +237,15 @@ pub(super) fn invoked<'a>(
     let (Some(book), Some(meters)) = (given.get_str("book"), given.get_str("meters")) else {
         return Ok(None);
     };
-    let (Some(head), Some(width), Some(timing)) = (
+    let (Some(head), Some(width), Some(timing), Some(every)) = (
         head_of(given),
         width_of(given),
         timing_of(given),
+        given.get_one("every"),
     ) else {
         return Ok(None);
     };
-    Ok(Some(Invocation::Head(HeadOptions {
+    let options = HeadOptions {
         head,
         book: BookOptions {
             path: book,
@@ -249,7 +260,8 @@ pub(super) fn invoked<'a>(
         stays: given.get_flag("stay"),
         capture: given.get_str("capture"),
         captures_strangers: given.get_flag("capture-strangers"),
-    })))
+    };
+    Ok(Some(Invocation::Head(options, every)))
 }
 
 /// The head end.
@@ -276,7 +288,7 @@ fn timing_of<'a>(given: &ArgMatches<'a>) -> Option<Timing> {
 fn opening_of<'a>(given: &ArgMatches<'a>) -> Option<Opening<'a>> {
     Some(Opening {
         serial: given.get_one("open")?,
-        release: given.get_one("release")?,
+        release: given.get_one("release").unwrap_or(0),
         image: given.get_str("image")?,
     })
 }

@@ -6,7 +6,7 @@ use clap::{ArgMatches, Command};
 use fw_cli::MeterOptions;
 use fw_host::NewMeter;
 use std::alloc::{AllocError, Global};
-use std::net::SocketAddr;
+use std::net::{IpAddr, SocketAddr};
 
 /// What the long help begins with.
 const ABOUT: &str = "\
@@ -22,8 +22,9 @@ after a power cut, and --block-size, --capacity and --factory-file are ignored. 
 has a FILE.
 
 With --head just the addresses that are given may ask, each compared whole, with its port. A datagram
-from elsewhere is dropped. An address is IPv4 or IPv6, as 127.0.0.1:4059 or [::1]:4059. Port 0 of
---listen is one that the system picks.
+from elsewhere is dropped. An address is IPv4 or IPv6, as 127.0.0.1:4059 or [::1]:4059, and those of
+--head are of the family of --listen; only at [::] an IPv4 address may ask too. Port 0 of --listen is one
+that the system picks.
 
 With --count N there are N meters in one process, a fleet to try a head end on: meter K receives at PORT
 and K - 1 more, and is in FILE.K. What was dropped is that of all. Each needs three open files, which the
@@ -177,9 +178,10 @@ pub(super) fn invoked<'a>(
     ) else {
         return Ok(None);
     };
+    let listen = address("listen", listen)?;
     Ok(Some(Invocation::Meter(MeterOptions {
-        listen: address("listen", listen)?,
-        heads: addresses(alloc, given.get_strs("head").unwrap_or(&[]))?,
+        listen,
+        heads: heads_at(alloc, listen, given.get_strs("head").unwrap_or(&[]))?,
         store,
         fresh: NewMeter {
             block_size,
@@ -192,11 +194,30 @@ pub(super) fn invoked<'a>(
     })))
 }
 
-/// The addresses that may ask.
-fn addresses<'a>(alloc: Global, texts: &[&'a str]) -> Result<Vec<SocketAddr>, WrongValue<'a>> {
-    let mut addresses = Vec::new(alloc);
+/// The addresses that may ask, as datagrams have them that come to a socket at `listen`.
+fn heads_at<'a>(
+    alloc: Global,
+    listen: SocketAddr,
+    texts: &[&'a str],
+) -> Result<Vec<SocketAddr>, WrongValue<'a>> {
+    let mut heads = Vec::new(alloc);
     for text in texts {
-        addresses.push(address("head", *text)?)?;
+        heads.push(head_at(listen, *text)?)?;
     }
-    Ok(addresses)
+    Ok(heads)
+}
+
+/// The address that the value of --head is. To a socket at all IPv6 addresses an IPv4 one comes as the IPv4-mapped address (RFC 4291, 2.5.5.2).
+fn head_at<'a>(listen: SocketAddr, text: &'a str) -> Result<SocketAddr, WrongValue<'a>> {
+    let head = address("head", text)?;
+    match (listen.ip(), head.ip()) {
+        (IpAddr::V4(_), IpAddr::V4(_)) | (IpAddr::V6(_), IpAddr::V6(_)) => Ok(head),
+        (IpAddr::V6(own), IpAddr::V4(ip)) if own.is_unspecified() => {
+            Ok(SocketAddr::new(IpAddr::V6(ip.to_ipv6_mapped()), head.port()))
+        }
+        _ => Err(WrongValue::OtherFamily {
+            option: "head",
+            text,
+        }),
+    }
 }

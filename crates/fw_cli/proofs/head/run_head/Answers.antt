@@ -46,5 +46,5 @@ returns-in_err-begin-clause-faults g c =
 pub returns-in-Ok-clause-led : goal.returns-in-Ok-clause-led
 returns-in-Ok-clause-led g c =
     let set = c.in_ok-port.ensures in
-    led_out c.args.options.now _ _ _ _ c.in_ok-port.field-0.kept _ _ _ set.list.1 set.opening c.take.ensures.value set.number set.width c.in_ok-begin.ensures.begins c.in_ok-daemon.ensures.made
-    c.in-Ok.ensures.ran_out
+    led_out c.args.options.now _ _ _ _ c.in_ok-port.field-0.kept _ _ _ _ set.list.1 set.opening c.take.ensures.value set.number set.width c.in_ok-begin.ensures.begins c.in_ok-daemon.ensures.made
+    c.in-Ok.ensures.ran_out c.in-Ok.ensures.ended

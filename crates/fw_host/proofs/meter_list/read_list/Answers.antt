@@ -29,7 +29,7 @@ loop-preserved g c =
     let is = c.loop.invariant in
     let reads = c.in-Ok-true.ensures.reads is.trim is.ready in
     let read = rw c.in-Ok-true.field-0-test at reads in
-    record_read _ c.loop.reader c.read_byte_record.new.self c.loop.meters c.take.new.meters (fields_of c.read_byte_record.new.row) is read
+    record_read _ _ c.loop.reader c.read_byte_record.new.self c.loop.meters c.take.new.meters (fields_of c.read_byte_record.new.row) is read
     (c.in-Ok-true.ensures.ready is.trim) c.in-Ok-true.ensures.flexible c.in_ok-take-in-Ok-true.ensures.once c.in_ok-take-in-Ok-true.ensures.taken
 
 pub returns-in_err-take-in-Ok-true-clause-bad_list : goal.returns-in_err-take-in-Ok-true-clause-bad_list
@@ -38,14 +38,14 @@ returns-in_err-take-in-Ok-true-clause-bad_list g c = λ line e.
     let reads = c.in-Ok-true.ensures.reads is.trim is.ready in
     let read = rw c.in-Ok-true.field-0-test at reads in
     let bad : c.take.result ≡ Err (BadList line) = search rules in
-    no_list _ c.loop.reader c.read_byte_record.new.self c.loop.meters (fields_of c.read_byte_record.new.row) is read (c.take.ensures.bad_list line bad)
+    no_list _ _ c.loop.reader c.read_byte_record.new.self c.loop.meters (fields_of c.read_byte_record.new.row) is read (c.take.ensures.bad_list line bad)
 
 pub returns-in-Ok-false-clause-ok : goal.returns-in-Ok-false-clause-ok
 returns-in-Ok-false-clause-ok g c =
     let is = c.loop.invariant in
     let reads = c.in-Ok-false.ensures.reads is.trim is.ready in
     let read = rw c.in-Ok-false.field-0-test at reads in
-    list_read _ c.loop.reader c.read_byte_record.new.self c.loop.meters (fields_of c.read_byte_record.new.row) is read
+    list_read _ _ c.loop.reader c.read_byte_record.new.self c.loop.meters (fields_of c.read_byte_record.new.row) is read
 
 pub stopped-requires : goal.stopped-requires
 stopped-requires g c =
