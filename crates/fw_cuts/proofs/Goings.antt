@@ -1,5 +1,5 @@
 -- How calls of the files of a store follow on each other (as `fw_disk` has it of a folder).
-use Rattle.std.proofs.Common.{inl, inr, ⊎_elim, ℕ, List, ◌∙◌, ap, arith, refl, sym, subst, Ok, Err, Result, OnOk}
+use Rattle.std.proofs.Common.{inl, inr, ⊎_elim, ℕ, List, ◌∙◌, ap, arith, refl, sym, subst, Ok, Err, Result, OnOk, OnErr}
 use Rattle.fw_cuts.specs.Both.{Both, On}
 use Rattle.fw_cuts.specs.Cuts.{Seen, Goes, Stays, MayResize, IsSynced}
 use Rattle.fw_cuts.specs.Private.{SameStore, SameJournal}
@@ -124,3 +124,8 @@ on_ok_3 (Err e) P Q R S follows p q r = p
 pub on_ok_4 : {T E : Type 0} (result : Result T E) (P Q R S U : Type 0) → (P → Q → R → S → U) → OnOk result P → OnOk result Q → OnOk result R → OnOk result S → OnOk result U
 on_ok_4 (Ok v) P Q R S U follows p q r s = follows p q r s
 on_ok_4 (Err e) P Q R S U follows p q r s = p
+
+-- what holds of a call that was refused
+pub if_err : {T E : Type 0} (result : Result T E) (P : Type 0) → P → OnErr result P
+if_err (Ok v) P holds = tt
+if_err (Err e) P holds = holds

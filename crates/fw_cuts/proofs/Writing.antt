@@ -1,15 +1,16 @@
 -- A header write, as its code has it: what it is of what FILE had at first.
-use Rattle.std.proofs.Common.{◌≡◌, ℕ, ◌+◌, ◌≤◌, List, length, sym, subst, ◌∙◌, ap}
-use Rattle.fw_undo.specs.Write.{Write, IsWrite}
-use Rattle.fw_undo.specs.Cut.{IsOn, after_of}
+use Rattle.std.proofs.Common.{◌≡◌, ℕ, ◌+◌, ◌≤◌, List, length, sym, subst, ◌∙◌, ap, Option, None, Some, IfSome, IfNone, refl, arith}
+use Rattle.fw_undo.specs.Write.{Write, IsWrite, journal_bytes}
+use Rattle.fw_undo.specs.Cut.{IsOn, Leaves, replaced, before_of, after_of}
 use Rattle.fw_undo.specs.Laws.{OneWrite, EachCutIsMended, OneSectorIsWhole}
 use Rattle.fw_cuts.specs.Both.{Both}
 use Rattle.fw_cuts.specs.Cuts.{Seen, Goes, Stays, IsSynced, NoneLost}
-use Rattle.fw_cuts.specs.Rest.{write_on, IsReadyFor, IsAtRest, IsOldOrNew}
+use Rattle.fw_cuts.specs.Rest.{write_on, IsReadyFor, IsAtRest, IsOldOrNew, IsTakenBack}
 use Rattle.fw_cuts.specs.Private.{SameStore, SameJournal, Lays}
 use Rattle.fw_cuts.specs.declared.files.Part.{Part}
 use Rattle.fw_cuts.specs.declared.files.Part.TheVariants.{Store, Journal}
 use Rattle.fw_cuts.proofs.Goings.{stays, store_stays, store_synced, journal_synced}
+use Rattle.fw_cuts.proofs.Splices.{replaced_again, replaced_same}
 use Rattle.fw_cuts.proofs.Found.{on_written}
 use Rattle.fw_cuts.proofs.Cutting.{in_preparing, in_writing}
 use Rattle.fw_cuts.proofs.Resting.{header_written}
@@ -67,3 +68,24 @@ module _ (a b m : Seen) (at : ℕ) (bytes : List ℕ) (last_at : ℕ) (last : Li
     at_rest_after from to one before behind ready journaled e goes found written done =
         header_written from to w a.held.store e one w_fits w_on before behind found written (journal_synced d e goes journaled) (done_so e done)
         (subst (λ (l : List ℕ). IsReadyFor l w) (sym goes.reads) (subst (λ (v : Write). IsReadyFor d.held.journal v) u_same ready))
+
+    -- a taking back makes FILE as it was
+    put_back_all : (left : List ℕ) → Leaves u d.held.store left → before_of u left ≡ d.held.store
+    put_back_all left l =
+        let order : u.at + length l.front ≤ u.last_at = omega (arith, l.size, fits.order) in
+        ap (λ (bytes : List ℕ). replaced bytes u.at u.before u.last_at u.last_before) l.stands
+        ∙ replaced_again d.held.store u.at l.front u.before u.last_at l.last u.last_before (sym l.size) order on_ready.within
+        ∙ replaced_same d.held.store u.at u.before u.last_at u.last_before on_ready.front on_ready.last
+
+    pub failed_so : (kept : Option (List ℕ)) → IfSome kept (λ bytes. bytes ≡ journal_bytes u) → IfNone kept (¬ IsWrite u) → OneWrite
+        → (e : Seen) → Goes (Lays u d.held.store) d e → (made : List ℕ) → IsTakenBack kept e.held.store made → made ≡ a.held.store
+    failed_so None some none one e lays made back = absurd (none fits)
+    failed_so (Some journal) some none one e lays made back =
+        let v : Write = back.0 in
+        let same : v ≡ u = one v u back.1 fits (sym back.2 ∙ some) in
+        back.3 ∙ ap (λ (x : Write). before_of x e.held.store) same ∙ put_back_all e.held.store (lays.reads.lays refl) ∙ ready_same
+
+-- a header write that failed before it wrote to FILE
+pub unbegun : (kept : Option (List ℕ)) (a e : Seen) → kept ≡ None → e.held.store ≡ a.held.store → (made : List ℕ) → IsTakenBack kept e.held.store made → made ≡ a.held.store
+unbegun None a e none same made back = back ∙ same
+unbegun (Some journal) a e none same made back = let wrong : Some journal ≡ None = none in cc

@@ -1,7 +1,7 @@
 -- Public vocabulary: what is found of a header write that was cut.
-use Rattle.std.specs.Prelude.{◌≡◌, ◌≢◌, ◌⊎◌, ◌+◌, ℕ, List, [], length, take, drop, slice_range}
+use Rattle.std.specs.Prelude.{Option, None, Some, ◌≡◌, ◌≢◌, ◌⊎◌, ◌+◌, ℕ, List, [], length, take, drop, slice_range}
 use Rattle.fw_undo.specs.Write.{Write, IsWrite, journal_bytes}
-use Rattle.fw_undo.specs.Cut.{Mends, ChangesOneSector, after_of}
+use Rattle.fw_undo.specs.Cut.{Mends, ChangesOneSector, before_of, after_of}
 use Rattle.fw_cuts.specs.Both.{Both}
 use Rattle.fw_cuts.specs.Cuts.{Seen, IsSynced, NoneLost}
 use Rattle.fw_cuts.specs.declared.files.Part.{Part}
@@ -58,3 +58,9 @@ pub record IsChance (old_journal : List ℕ) (w : Write) (journal : List ℕ) : 
 abbrev pub IsOldOrNew : Both → Write → Both → Both → Type 0
 IsOldOrNew held w old left = (made : List ℕ) → IsRecovered left.journal left.store made
     → (made ≡ old.store) ⊎ (made ≡ after_of w held.store) ⊎ IsChance held.journal w left.journal
+
+-- What is made of FILE after a header write that failed, by the journal that was kept of it: the bytes of before are put back. Without one
+-- FILE is left.
+abbrev pub IsTakenBack : Option (List ℕ) → List ℕ → List ℕ → Type 0
+IsTakenBack None store made = made ≡ store
+IsTakenBack (Some journal) store made = (w : Write) × IsWrite w × (journal ≡ journal_bytes w) × (made ≡ before_of w store)

@@ -1,16 +1,17 @@
 //! A header write, through its journal.
 
-ghost use Rattle.std.specs.Prelude.{◌≡◌, ◌+◌, ◌≤◌, ℕ, IsTrue, IfOk, OnOk, length};
+ghost use Rattle.std.specs.Prelude.{◌≡◌, ◌+◌, ◌≤◌, ℕ, List, None, IsTrue, IfOk, OnOk, OnErr, length};
 ghost use Rattle.fw_undo.specs.Write.{IsWrite};
 ghost use Rattle.fw_undo.specs.Cut.{after_of};
 ghost use Rattle.fw_cuts.specs.Cuts.{Goes, Stays, LosesNoMore};
-ghost use Rattle.fw_cuts.specs.Rest.{write_on, IsAtRest, IsOldOrNew};
+ghost use Rattle.fw_cuts.specs.Rest.{write_on, IsAtRest, IsOldOrNew, IsTakenBack};
 
 use crate::files::{FilesFault, Part, StoreFiles};
 use crate::journal::put_journal;
 use crate::parts::write_parts;
 use crate::reading::{read_both, size_from};
-use fw_undo::HeaderWrite;
+use crate::recovery::{put_back, rest};
+use fw_undo::{HeaderWrite, JournalBytes};
 
 /// The most bytes of a header that stand before the slots.
 const FRONT_SIZE: usize = 614;
@@ -18,20 +19,24 @@ const FRONT_SIZE: usize = 614;
 /// The most bytes of a header that stand after the slots.
 const LAST_SIZE: usize = 1544;
 
-/// What header writes of a store need beside it: room for what stands there, and the sector that the last one changed, in which the
-/// next one looks first.
+/// What header writes of a store need beside it: room for what stands there, the sector that the last one changed, in which the next one
+/// looks first, and the journal of one that failed when FILE may have had a part of it.
 #[derive(Drop)]
 pub struct Scratch {
     room: [u8; FRONT_SIZE + LAST_SIZE],
     likely: u64,
+    failed: Option<JournalBytes>,
 }
 
 impl Scratch {
     /// Before the first header write.
-    pub fn new() -> Scratch {
+    pub fn new() -> Scratch
+        ensures { result.failed ≡ None }
+    {
         Scratch {
             room: [0; FRONT_SIZE + LAST_SIZE],
             likely: 0,
+            failed: None,
         }
     }
 }
@@ -46,7 +51,8 @@ impl Scratch {
 /// # Errors
 ///
 /// `FilesFault` where the disk failed, or where the write is none of a header: it has more than 614 bytes in front, there are more
-/// than 1,544 at the end of FILE, or the first part doesn't end where the last one begins, or before.
+/// than 1,544 at the end of FILE, or the first part doesn't end where the last one begins, or before. It has to be taken back then, before
+/// the next one: `take_back` makes FILE as it was.
 pub fn replace<F: StoreFiles>(
     files: &mut F,
     scratch: &mut Scratch,
@@ -65,16 +71,46 @@ pub fn replace<F: StoreFiles>(
     ensures goes { IsTrue F.honest → (from to : ℕ) → IsAtRest from to (F.seen files.old)
         → Goes (IsOldOrNew (F.seen files.old).held (write_on (F.seen files.old).held.store at bytes.now last_at last.now))
         (F.seen files.old) (F.seen files.new) }
+    ensures failed { IsTrue F.honest → (from to : ℕ) → IsAtRest from to (F.seen files.old) → scratch.old.failed ≡ None → OnErr result
+        ((made : List ℕ) → IsTakenBack scratch.new.failed (F.seen files.new).held.store made → made ≡ (F.seen files.old).held.store) }
 {
     fw_undo::laws::one_write();
     fw_undo::laws::each_cut_is_mended();
     fw_undo::laws::one_sector_is_whole();
     files.sync(Part::Store)?;
-    let Scratch { room, likely } = scratch;
+    let Scratch {
+        room,
+        likely,
+        failed,
+    } = scratch;
     let write = write_to(files, room, at, bytes, last_at, last)?;
     let change = write.change(likely);
     put_journal(files, change, &write)?;
-    write_parts(files, change, &write)
+    match write_parts(files, change, &write) {
+        Ok(()) => Ok(()),
+        Err(fault) => {
+            *failed = write.to_bytes();
+            Err(fault)
+        }
+    }
+}
+
+/// Takes back a header write that failed, whatever of it stands in FILE. Then all of FILE is written again and synced, and the journal is
+/// emptied, as where files are opened.
+///
+/// # Errors
+///
+/// `FilesFault` where the disk failed. It is still to be taken back.
+pub fn take_back<F: StoreFiles>(files: &mut F, scratch: &mut Scratch) -> Result<(), FilesFault>
+    ensures done { IsTrue F.honest
+        → OnOk result (IsTakenBack scratch.old.failed (F.seen files.old).held.store (F.seen files.new).held.store) }
+    ensures none { OnOk result (scratch.new.failed ≡ None) }
+    ensures at_rest { IsTrue F.honest → OnOk result ((from to : ℕ) → IsAtRest from to (F.seen files.new)) }
+{
+    put_back(files, &scratch.failed)?;
+    rest(files)?;
+    scratch.failed = None;
+    Ok(())
 }
 
 /// A header write to FILE, with what FILE has in the places of its parts.

@@ -14,6 +14,6 @@ mod recovery;
 mod slots;
 
 pub use files::{FilesFault, Part, StoreFiles};
-pub use header::{Scratch, replace};
+pub use header::{Scratch, replace, take_back};
 pub use recovery::settle;
 pub use slots::write_slot;

@@ -3,14 +3,14 @@
 ghost use Rattle.std.specs.Prelude.{◌≡◌, ℕ, IsTrue, OnOk};
 ghost use Rattle.fw_undo.specs.Write.{IsWrite};
 ghost use Rattle.fw_undo.specs.Cut.{Mends};
-ghost use Rattle.fw_cuts.specs.Rest.{IsRecovered, IsAtRest};
+ghost use Rattle.fw_cuts.specs.Rest.{IsRecovered, IsTakenBack, IsAtRest};
 
 use crate::again::write_again;
 use crate::files::{FilesFault, Part, StoreFiles};
 use crate::journal::{empty_journal, read_journal};
 use crate::parts::write_both;
 use crate::reading::{read_both, size_from};
-use fw_undo::{HeaderWrite, MAX_JOURNAL_SIZE, MAX_PART_SIZE};
+use fw_undo::{HeaderWrite, JournalBytes, MAX_JOURNAL_SIZE, MAX_PART_SIZE};
 
 /// What an opening does first. It puts right what a power cut left of a header write, by the journal: where each sector of the header is the
 /// one of before or the one of after, and some of after are missing, those of before are put back. Then it writes all of FILE once more and
@@ -29,7 +29,7 @@ pub fn settle<F: StoreFiles>(files: &mut F) -> Result<(), FilesFault>
 }
 
 /// Writes all of FILE once more and syncs it, and empties the journal and syncs that.
-fn rest<F: StoreFiles>(files: &mut F) -> Result<(), FilesFault>
+pub(crate) fn rest<F: StoreFiles>(files: &mut F) -> Result<(), FilesFault>
     ensures store { IsTrue F.honest → OnOk result ((F.seen files.new).held.store ≡ (F.seen files.old).held.store) }
     ensures at_rest { IsTrue F.honest → OnOk result ((from to : ℕ) → IsAtRest from to (F.seen files.new)) }
 {
@@ -66,6 +66,32 @@ fn mend<F: StoreFiles>(files: &mut F, write: &HeaderWrite<'_>) -> Result<(), Fil
     read_both(files, write.at, front, write.last_at, last)?;
     if !write.is_torn(front, last) {
         return Ok(());
+    }
+    write_both(
+        files,
+        write.at,
+        write.before,
+        write.last_at,
+        write.last_before,
+    )
+}
+
+/// Puts back what stood before a header write that failed, of which this is the journal, if one did.
+pub(crate) fn put_back<F: StoreFiles>(
+    files: &mut F,
+    failed: &Option<JournalBytes>,
+) -> Result<(), FilesFault>
+    ensures { IsTrue F.honest
+        → OnOk result (IsTakenBack failed.now (F.seen files.old).held.store (F.seen files.new).held.store) }
+{
+    let Some(bytes) = failed else {
+        return Ok(());
+    };
+    let Some(write) = HeaderWrite::from_bytes(bytes.as_slice()) else {
+        return Err(FilesFault);
+    };
+    if files.len(Part::Store)? < write.last_at {
+        return Err(FilesFault);
     }
     write_both(
         files,

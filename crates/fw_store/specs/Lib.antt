@@ -12,7 +12,6 @@ pub mod Setup
 pub mod Fresh
 pub mod Memory
 pub mod Contents
-pub mod Journaled
 pub mod StoreBytes
 pub mod Refusals
 pub mod StoreLaws

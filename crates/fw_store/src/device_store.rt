@@ -1,6 +1,7 @@
 //! A store over a device of bytes.
 
 ghost use Rattle.std.specs.Prelude.{
+  false,
   ◌≡◌,
   ◌≢◌,
   ◌+◌,
@@ -260,11 +261,12 @@ fn find<D: ByteDevice>(device: &mut D) -> Result<Option<Found>, DeviceFault>
     Ok(Found::of(capacity, len))
 }
 
-/// Whether the bytes of a device are a store.
-pub(crate) fn holds_store<D: ByteDevice>(device: &mut D) -> Result<bool, DeviceFault>
-    ensures kept { KeepsDevice D.honest D.sound D.room device.old device.new }
+/// Whether `len` bytes that begin with this capacity are a store.
+pub(crate) fn is_store(capacity: u32, len: u64) -> bool
+    ensures some { IsTrue result → (tail : Tail) × (len ≡ stored_size tail capacity) }
+    ensures none { result ≡ false → IsCapacity capacity → (tail : Tail) → len ≢ stored_size tail capacity }
 {
-    Ok(find(device)?.is_some())
+    Found::of(capacity, len).is_some()
 }
 
 /// The number whose bytes these are, high byte first.

@@ -1,10 +1,11 @@
 //! Why a store or a device failed, or could not be made.
 
-ghost use Rattle.std.specs.Prelude.{◌≡◌, Some, None};
+ghost use Rattle.std.specs.Prelude.{◌≡◌, Some, None, ⊤};
 ghost use Rattle.fw_store.specs.declared.error.SetupError.TheVariants as setup;
 ghost use Rattle.fw_store.specs.declared.error.FileStoreError.TheVariants as file;
 
 use crate::device::DeviceFault;
+use fw_cuts::FilesFault;
 use fw_disk::{Because, Reason};
 use std::alloc::AllocError;
 use std::fmt;
@@ -90,6 +91,22 @@ impl From<DeviceFault> for FileFault {
     ghost from_gives = { λ _ fault. fault.reason ≡ None };
 
     fn from(_fault: DeviceFault) -> FileFault {
+        FileFault { reason: None }
+    }
+}
+
+impl From<FilesFault> for DeviceFault {
+    ghost from_gives = { λ _ _. ⊤ };
+
+    fn from(_fault: FilesFault) -> DeviceFault {
+        DeviceFault
+    }
+}
+
+impl From<FilesFault> for FileFault {
+    ghost from_gives = { λ _ fault. fault.reason ≡ None };
+
+    fn from(_fault: FilesFault) -> FileFault {
         FileFault { reason: None }
     }
 }

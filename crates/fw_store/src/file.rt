@@ -2,10 +2,7 @@
 
 ghost use Rattle.std.specs.Prelude.{
   ◌≡◌,
-  ◌+◌,
-  ◌<◌,
   ◌≤◌,
-  ◌^◌,
   ℕ,
   IsTrue,
   length,
@@ -25,19 +22,18 @@ ghost use Rattle.fw_store.specs.Setup.{IsCapacity, IsSetup};
 
 use crate::beside::{UndoFile, begin_store, check_absent};
 use crate::device::{ByteDevice, DeviceFault};
-use crate::device_store::{DeviceStore, holds_store, write_behind};
+use crate::device_store::{DeviceStore, is_store, number, write_behind};
 use crate::error::{FileFault, FileStoreError};
-use crate::open_file::OpenFile;
-use crate::recovery::{Scratch, prepare_journal, recover};
+use crate::open_files::{OpenFile, OpenFiles};
 use crate::setup::{fresh_bytes, is_setup};
 use crate::store::ImageStore;
 use crate::tail::store_size;
 use crate::version::{HeaderBytes, HeaderVersion};
+use fw_cuts::{FilesFault, Part, Scratch, StoreFiles, replace, settle, take_back, write_slot};
 use fw_disk::{
     Because, Cause, Folder, Name, Reason, SystemFolder, abandon, begin, finish, open,
     open_companion,
 };
-use fw_undo::{Change, HeaderWrite, MAX_JOURNAL_SIZE};
 use std::fs::File;
 use std::path::AsPath;
 use std::rt::Files;
@@ -46,9 +42,8 @@ use std::rt::Files;
 /// journal beside it. Nothing is known of what a file holds or gives, so it is neither honest nor sound.
 #[derive(Drop)]
 pub struct FileDevice {
-    store: OpenFile,
-    journal: OpenFile,
-    /// Whether a header write failed, so that the file may have a part of it. The journal is then that of this write.
+    files: OpenFiles,
+    /// Whether a header write failed, so that the file may have a part of it, or a sync may have lost some of its bytes.
     torn: bool,
     scratch: Scratch,
 }
@@ -105,7 +100,7 @@ impl FileDevice {
         requires { length image.now ≤ capacity }
     {
         write_behind(self, capacity, head, image)?;
-        match finish(folder, self.store.file()) {
+        match finish(folder, self.files.store()) {
             Ok(()) => Ok(()),
             Err(error) => Err(FileFault::from(error.cause().at(Name::Main))),
         }
@@ -113,39 +108,35 @@ impl FileDevice {
 
     /// Takes away what was made of a store, under whichever name it is.
     fn abandon<R: Files<File = File>>(&self, folder: &mut SystemFolder<'_, R>) {
-        abandon(folder, Name::New, self.store.file());
-        abandon(folder, Name::Main, self.store.file());
-        abandon(folder, Name::Journal, self.journal.file());
+        abandon(folder, Name::New, self.files.store());
+        abandon(folder, Name::Main, self.files.store());
+        abandon(folder, Name::Journal, self.files.journal());
     }
 
-    /// Opens a file that is there, if it is a store. What a power cut left of a header write is put right by its journal. A store that
-    /// has no journal gets an empty one. The names of both are where a power cut leaves them.
+    /// Opens a file that is there, if it is a store. A store that has no journal gets an empty one. What a power cut left of a header
+    /// write is put right by the journal, and what a failed sync may have lost is written again. The names of both are where a power cut
+    /// leaves them.
     fn open<R: Files<File = File>>(
         folder: &mut SystemFolder<'_, R>,
     ) -> Result<Option<FileDevice>, FileFault> {
-        let mut store = opened_store(folder)?;
-        let journal = match opened_journal(folder)? {
-            Some(mut journal) => {
-                put_right(&mut store, &mut journal)?;
-                Some(journal)
-            }
-            None => None,
-        };
-        if !holds_store(&mut store)? {
+        let store = opened_store(folder)?;
+        let journal = opened_journal(folder)?;
+        if !holds_store(&store)? {
             return Ok(None);
         }
         let journal = match journal {
             Some(journal) => journal,
             None => new_journal(folder)?,
         };
-        Ok(Some(FileDevice::of(store, journal)))
+        let mut device = FileDevice::of(store, journal);
+        settle(&mut device.files)?;
+        Ok(Some(device))
     }
 
     /// The bytes of a file, with the journal beside it.
     fn of(store: OpenFile, journal: OpenFile) -> FileDevice {
         FileDevice {
-            store,
-            journal,
+            files: OpenFiles::of(store, journal),
             torn: false,
             scratch: Scratch::new(),
         }
@@ -154,30 +145,21 @@ impl FileDevice {
     /// Takes back a header write that failed.
     fn mend(&mut self) -> Result<(), DeviceFault> {
         if self.torn {
-            put_back(&mut self.store, &mut self.journal)?;
+            take_back(&mut self.files, &mut self.scratch)?;
             self.torn = false;
         }
         Ok(())
     }
+}
 
-    /// Writes the parts of a header that change. The journal is ready for it.
-    fn write_parts(
-        &mut self,
-        change: Change,
-        at: u64,
-        bytes: &[u8],
-        last_at: u64,
-        last: &[u8],
-    ) -> Result<(), DeviceFault>
-        ensures sized { last_at + length last.now < 2 ^ 64 → OnOk result (self.new.store.size ≡ last_at + length last.now) }
-    {
-        let len = last_at.saturating_add(last.len() as u64);
-        match change {
-            Change::FirstPart if self.store.size() == len => self.store.replace_at(at, bytes),
-            Change::LastPart if self.store.size() == len => self.store.replace_at(last_at, last),
-            _ => self.store.replace_both(at, bytes, last_at, last),
-        }
+/// Whether the bytes of FILE are a store, in whichever version, or what a cut header write left of one.
+fn holds_store(store: &OpenFile) -> Result<bool, FilesFault> {
+    let mut bytes = [0; 4];
+    if store.size() < bytes.len() as u64 {
+        return Ok(false);
     }
+    store.read_at(0, &mut bytes)?;
+    Ok(is_store(number(bytes), store.size()))
 }
 
 /// FILE, opened.
@@ -232,41 +214,6 @@ fn measured<R: Files<File = File>>(
         Ok(size) => Ok(OpenFile::of(file, size)),
         Err(cause) => Err(cause.at(name)),
     }
-}
-
-/// Takes back what a power cut left of a header write, by its journal.
-fn put_right(store: &mut OpenFile, journal: &mut OpenFile) -> Result<(), DeviceFault> {
-    let mut bytes = [0; MAX_JOURNAL_SIZE];
-    match read_journal(journal, &mut bytes)? {
-        Some(bytes) => recover(store, bytes),
-        None => Ok(()),
-    }
-}
-
-/// Takes back a header write that failed, whatever of it stands in the file. Where the journal has no write, it changed one sector.
-fn put_back(store: &mut OpenFile, journal: &mut OpenFile) -> Result<(), DeviceFault> {
-    let mut bytes = [0; MAX_JOURNAL_SIZE];
-    let Some(bytes) = read_journal(journal, &mut bytes)? else {
-        return Ok(());
-    };
-    match HeaderWrite::from_bytes(bytes) {
-        Some(write) => store.replace_both(write.at, write.before, write.last_at, write.last_before),
-        None => Ok(()),
-    }
-}
-
-/// The bytes of a journal, if they aren't more than a journal has.
-fn read_journal<'a>(
-    journal: &mut OpenFile,
-    out: &'a mut [u8],
-) -> Result<Option<&'a [u8]>, DeviceFault> {
-    let len = journal.len()?;
-    if len > out.len() as u64 {
-        return Ok(None);
-    }
-    let bytes = &mut out[..len as usize];
-    journal.read_at(0, bytes)?;
-    Ok(Some(bytes))
 }
 
 impl DeviceStore<FileDevice> {
@@ -419,53 +366,41 @@ impl ByteDevice for FileDevice {
     ghost contents = { λ _. [] };
 
     fn len(&mut self) -> Result<u64, DeviceFault> {
-        self.store.len()
+        Ok(self.files.len(Part::Store)?)
     }
 
-    fn set_len(&mut self, len: u64) -> Result<(), DeviceFault>
-        ensures sized { OnOk result (self.new.store.size ≡ len) }
-    {
-        self.store.set_len(len)
+    fn set_len(&mut self, len: u64) -> Result<(), DeviceFault> {
+        Ok(self.files.set_len(Part::Store, len)?)
     }
 
     fn read_at(&mut self, at: u64, out: &mut [u8]) -> Result<(), DeviceFault> {
         self.mend()?;
-        self.store.read_at(at, out)
+        Ok(self.files.read_at(Part::Store, at, out)?)
     }
 
     fn write_at(&mut self, at: u64, bytes: &[u8]) -> Result<(), DeviceFault> {
-        self.store.write_at(at, bytes)
+        Ok(write_slot(&mut self.files, at, bytes)?)
     }
 
+    /// The disk has all that was written before these bytes when they are written, and has them when the call ends.
     fn replace_at(&mut self, at: u64, bytes: &[u8]) -> Result<(), DeviceFault> {
-        self.store.replace_at(at, bytes)
+        self.files.sync(Part::Store)?;
+        self.files.write_at(Part::Store, at, bytes)?;
+        Ok(self.files.sync(Part::Store)?)
     }
 
-    /// The journal has the bytes of before and of after when they are written, except where they change one sector alone. A part that
-    /// stays isn't written then. The disk has them when the call ends.
+    /// By the journal, as `fw_cuts` says: a cut at any moment leaves the bytes of before or these, whole. The disk has them when the call
+    /// ends.
     fn replace_both(
         &mut self,
         at: u64,
         bytes: &[u8],
         last_at: u64,
         last: &[u8],
-    ) -> Result<(), DeviceFault>
-        ensures sized { last_at + length last.now < 2 ^ 64 → OnOk result (self.new.store.size ≡ last_at + length last.now) }
-    {
+    ) -> Result<(), DeviceFault> {
         self.mend()?;
-        // What the journal gets as the bytes of before is on the disk.
-        self.store.sync()?;
-        let change = prepare_journal(
-            &mut self.store,
-            &mut self.journal,
-            &mut self.scratch,
-            at,
-            bytes,
-            last_at,
-            last,
-        )?;
-        let replaced = self.write_parts(change, at, bytes, last_at, last);
+        let replaced = replace(&mut self.files, &mut self.scratch, at, bytes, last_at, last);
         self.torn = replaced.is_err();
-        replaced
+        Ok(replaced?)
     }
 }

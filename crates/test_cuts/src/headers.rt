@@ -1,6 +1,7 @@
 //! Header writes, openings and writes into a slot.
 
-use fw_cuts::{FilesFault, Part, Scratch, StoreFiles, replace, settle, write_slot};
+use crate::failing::FailingFiles;
+use fw_cuts::{FilesFault, Part, Scratch, StoreFiles, replace, settle, take_back, write_slot};
 use fw_ramfiles::MemoryFiles;
 use std::alloc::Global;
 use std::test::Fail;
@@ -54,6 +55,29 @@ fn a_header_is_written(rt: HostRuntime) -> Result<(), Fail> {
     let store = files.0.bytes(Part::Store)?;
     let found = hex::encode(alloc, store.get(511..).unwrap_or(&[]))?;
     expect(alloc, 2, found.as_str(), "6366")
+}
+
+/// Whichever call fails, FILE is as it was once the write is taken back. It makes twelve calls.
+#[test]
+fn a_write_that_failed_is_taken_back(rt: HostRuntime) -> Result<(), Fail> {
+    let alloc = rt.alloc();
+    for before in 0..14 {
+        let mut scratch = Scratch::new();
+        let mut failing = Kept(FailingFiles {
+            files: files_of(alloc, b"ab", "")?.into_inner(),
+            before,
+        });
+        let row = before as usize;
+        match replace(&mut failing.0, &mut scratch, 511, b"cd", 513, b"e") {
+            Ok(()) if before < 12 => return Err("no call failed".into()),
+            Ok(()) => holds(alloc, row, &failing.0.files, "636465", JOURNAL)?,
+            Err(_) => {
+                take_back(&mut failing.0, &mut scratch)?;
+                holds(alloc, row, &failing.0.files, "6162", "")?;
+            }
+        }
+    }
+    Ok(())
 }
 
 /// What a cut left is taken back, and what is whole is left. The journal is empty then.

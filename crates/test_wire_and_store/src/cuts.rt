@@ -1,12 +1,10 @@
-//! The journal of a header write, what is taken for a cut of one, and what is made of it. The digest is that of `sha256sum`.
+//! The journal of a header write, and what is taken for a cut of one. The digest is that of `sha256sum`.
 
 use crate::support::text;
-use crate::test_device::TestDevice;
-use fw_store::{Scratch, prepare_journal, recover};
-use fw_undo::{Change, HeaderWrite, MAX_JOURNAL_SIZE, MAX_PART_SIZE};
+use fw_undo::{HeaderWrite, MAX_PART_SIZE};
 use std::alloc::Global;
 use std::test::Fail;
-use test_tables::{Kept, Reads, Words, each_line, expect, present};
+use test_tables::{Reads, Words, each_line, expect, present};
 
 /// A write of two bytes at place 511, across the end of a sector, and of some after place 513 where there were none.
 fn write() -> HeaderWrite<'static> {
@@ -77,54 +75,3 @@ const FOUND: &str = "
     6162 66   => -
     6162 6500 => -
 ";
-
-/// A device with 511 zeros and these bytes.
-fn device_of(alloc: Global, last: &[u8]) -> Result<TestDevice, Fail> {
-    let mut bytes = vec![in alloc; 0; 511]?;
-    bytes.extend_from_slice(last)?;
-    Ok(TestDevice::of(bytes))
-}
-
-/// Makes the journal ready for a write of these bytes at place 511, and of others from place 513 on.
-fn prepare(
-    device: &mut TestDevice,
-    journal: &mut TestDevice,
-    bytes: &[u8],
-    last: &[u8],
-) -> Result<Change, Fail> {
-    if device.bytes.len() < 513 || bytes.len() > 2 {
-        return Err("no such write".into());
-    }
-    let mut scratch = Scratch::new();
-    Ok(prepare_journal(device, journal, &mut scratch, 511, bytes, 513, last)?)
-}
-
-/// What a cut leaves is taken back, and what is whole is left. A write that changes one sector empties the journal.
-#[test]
-fn a_journal_takes_a_cut_back(rt: HostRuntime) -> Result<(), Fail> {
-    let alloc = rt.alloc();
-    let mut device = Kept(device_of(alloc, b"ab")?);
-    let mut journal = Kept(TestDevice::new(alloc, MAX_JOURNAL_SIZE)?);
-    prepare(&mut device.0, &mut journal.0, b"cd", b"e")?;
-    spells(alloc, 0, &journal.0.bytes, JOURNAL)?;
-    recovers(alloc, 1, &journal.0.bytes, b"cb", "6162")?;
-    recovers(alloc, 2, &journal.0.bytes, b"cde", "636465")?;
-    let change = prepare(&mut device.0, &mut journal.0, b"cb", b"")?;
-    if change != Change::FirstPart {
-        return Err("the last part stays".into());
-    }
-    spells(alloc, 3, &journal.0.bytes, "")
-}
-
-/// With this journal a device that ends with these bytes has others after its recovery.
-fn recovers(
-    alloc: Global,
-    row: usize,
-    journal: &[u8],
-    last: &[u8],
-    want: &str,
-) -> Result<(), Fail> {
-    let mut device = Kept(device_of(alloc, last)?);
-    recover(&mut device.0, journal)?;
-    spells(alloc, row, device.0.bytes.get(511..).unwrap_or(&[]), want)
-}

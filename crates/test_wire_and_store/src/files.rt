@@ -394,7 +394,7 @@ const LINKED: &str = "
 ";
 
 /// Of a file that has the name of the journal, these are what a power cut leaves of one: no bytes, some of its mark, zeros, as many as a
-/// journal has. Any other one is refused, and left.
+/// journal has. An opening empties them. Any other one is refused, and left.
 const JOURNALS: &str = "
     create 8 2                     => None
     drop                           =>
@@ -404,6 +404,7 @@ const JOURNALS: &str = "
     drop                           =>
     beside .journal put 46575531ff =>
     reopen                         => None
+    beside .journal bytes          =>
     drop                           =>
     beside .journal put 000000     =>
     reopen                         => None
