@@ -5,7 +5,7 @@ import socket
 import struct
 
 from common import PATIENCE, SILENCE, Head, Members, Meter, bound, comes_in, listed, received, stays_silent, wants
-from ends import GET_NAME, HeadEnd
+from ends import GET_NAME, PROGRESS, HeadEnd, transfer, with_invoke_byte
 from ports import PATIENT, listens_at, opening
 
 GET_BLOCK_SIZE = "000100010001000dc001c1001200002c0000ff0200"
@@ -46,6 +46,20 @@ def the_width_is_kept(place):
         wants(count == want, f"with {words} it sends {count} blocks at a time")
 
 
+# To be seen: a socket that sends less than a datagram has.
+def a_block_comes_whole(place):
+    """A block of the greatest size comes to its meter in one datagram."""
+    meter, image = bound(), bytes(range(256)) * 4
+    listed(place.folder, [meter.getsockname()])
+    with HeadEnd(place.folder, *opening(place.folder, image=image), *PATIENT).running() as head:
+        at = listens_at(head)
+        for tail in ("000600000400", "00", "0000"):
+            replied(meter, at, tail)
+        got, _ = received(meter)
+    *_, block = transfer(image)
+    wants(got == with_invoke_byte(block, got[20:22]), f"in place of {block} it sends {got}")
+
+
 # Linux: the system tells when a datagram came, in seconds and nanoseconds.
 SO_TIMESTAMPNS = 35
 
@@ -58,16 +72,26 @@ def arrival(sock):
     return seconds + nanoseconds / 1e9
 
 
-# To be seen: a head end that ignores --resend, or doesn't ask again; one that ends though it is to stay, or stays though it isn't.
+def asked_again(folder, resend):
+    """The seconds after which a meter that doesn't answer is asked again."""
+    with bound() as meter:
+        meter.setsockopt(socket.SOL_SOCKET, SO_TIMESTAMPNS, 1)
+        listed(folder, [meter.getsockname()])
+        with HeadEnd(folder, *opening(folder), "--resend", resend).running():
+            first, second = arrival(meter), arrival(meter)
+    return second - first
+
+
+# To be seen: a head end that ignores --resend, doesn't ask again, or waits too long at its socket; one that ends though it is to stay, or
+# stays though it isn't.
 def a_head_end_waits_and_stays(place):
     """A meter that doesn't answer is asked again after --resend, and not before; and with --stay a head end without live rows goes on."""
-    meter = bound()
-    meter.setsockopt(socket.SOL_SOCKET, SO_TIMESTAMPNS, 1)
-    listed(place.folder, [meter.getsockname()])
-    with HeadEnd(place.folder, *opening(place.folder), "--resend", "800").running():
-        first, second = arrival(meter), arrival(meter)
     # It is waited for from when the head end was about to send.
-    wants(second - first > 0.5, f"it is asked again after {second - first:.3f} s")
+    seconds = asked_again(place.sub("late").folder, "800")
+    wants(seconds > 0.5, f"it is asked again after {seconds:.3f} s")
+    # Each wait at the socket is of 5 ms at most. The machine may be late, but not each time.
+    wants(any(asked_again(place.sub(f"soon{number}").folder, "100") < 0.25 for number in range(5)), "it is asked again late")
+    meter = bound()
     folder = place.sub("staying").folder
     listed(folder, [])
     with HeadEnd(folder, "--new", "--stay").running() as head:
@@ -76,6 +100,23 @@ def a_head_end_waits_and_stays(place):
         wants(head.process.poll() is None, "with --stay it ends")
     lines = HeadEnd(folder).over(patience=PATIENCE)
     wants(lines[1:] == ["over done 0 failed 0"], f"without it it prints {lines}")
+
+
+# To be seen: a head end that ignores --every.
+def progress_is_told(place):
+    """With --every 1 a head end tells within seconds how far it is, and with --every 0 it doesn't."""
+    meter = bound()
+    heads = []
+    for every in ("0", "1"):
+        folder = place.sub(every).folder
+        listed(folder, [meter.getsockname()])
+        heads.append(HeadEnd(folder, *opening(folder), "--resend", "100", "--every", every))
+    with heads[0].running() as silent, heads[1].running() as telling:
+        line = telling.process.stderr.readline().rstrip("\n")
+        wants(PROGRESS.fullmatch(line) and line.startswith("1 live, 0 done, 0 failed; "), f"it tells {line}")
+        silent.process.kill()
+        said = silent.process.communicate()[1]
+        wants(said == "", f"with --every 0 it tells {said}")
 
 
 # To be seen: a meter, or a fleet, that ignores --block-size, --capacity or --factory-file.
@@ -104,4 +145,4 @@ def a_new_meter_is_as_asked_for(place):
         asked(meter)
 
 
-STEPS = [the_width_is_kept, a_head_end_waits_and_stays, a_new_meter_is_as_asked_for]
+STEPS = [the_width_is_kept, a_block_comes_whole, a_head_end_waits_and_stays, progress_is_told, a_new_meter_is_as_asked_for]

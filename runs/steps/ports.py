@@ -1,14 +1,17 @@
 """What sockets send, where to and from where, and whom they hear. The datagrams are spelled by hand from docs/FORMATS.md."""
 
 import contextlib
+import errno
 import hashlib
 import os
 import pathlib
 import re
+import resource
+import signal
 import subprocess
 import time
 
-from common import HOST, SILENCE, Head, Members, Meter, bound, comes_in, listed, name_of, received, stays_silent, wait_for, wants
+from common import HOST, PATIENCE, SILENCE, Head, Members, Meter, bound, comes_in, listed, name_of, received, stays_silent, wait_for, wants
 from cuts import recording
 from ends import GET_NAME, GET_STATUS, STATUS, Failed, HeadEnd, action, transfer
 
@@ -34,6 +37,16 @@ def listens_at(head):
     found = re.fullmatch(r"listening 127\.0\.0\.1:(\d+)\n", head.process.stdout.readline())
     wants(found, "a head end doesn't tell where it listens")
     return HOST, int(found[1])
+
+
+@contextlib.contextmanager
+def full_disk(process):
+    """A process that can write to no file, as on a full disk."""
+    limit = resource.prlimit(process.pid, resource.RLIMIT_FSIZE)
+    resource.prlimit(process.pid, resource.RLIMIT_FSIZE, (0, limit[1]))
+    yield
+    if process.poll() is None:
+        resource.prlimit(process.pid, resource.RLIMIT_FSIZE, limit)
 
 
 def at_a_free_port(start):
@@ -158,6 +171,16 @@ def the_flight_is_kept(place):
         wants(least <= asked <= most, f"with a flight of {flight} it asks {asked} of 60 meters at once")
 
 
+# To be seen: a socket that is closed at fewer faults, or at none.
+def a_socket_may_fail(place):
+    """A meter whose socket fails 999 times in a row goes on. After 1,000 times it ends."""
+    with Meter(place.folder / "few.fw", env=place.preloaded("faulty", FAULTS=999)).killed() as meter:
+        got = Head().ask(meter, GET_STATUS)
+        wants(got == STATUS % 0, f"after 999 faults it answers {got}")
+    said = place.run("meter", "--listen", f"{HOST}:0", "--store", "many.fw", env=place.preloaded("faulty", FAULTS=1000))
+    wants((said[0], said[2]) == (1, ["dlmsfw: Socket", f"--listen {HOST}:0"]), f"after 1,000 faults it ends with {said}")
+
+
 # ---- the wires of `live`
 
 SCRIPT = "head 7 width 15\nmeter 1 block 2 capacity 64 factory 78\nmeter 2 block 2 capacity 64 factory 78\nopen 7 1 {} 1 2\n"
@@ -219,6 +242,15 @@ def slow_wires_are_waited_for(place):
     wants((status, out.splitlines(), said) == (0, want, []), f"it ends with {status} and {said}, and prints {out}")
 
 
+# To be seen: a wire that sends a datagram twice.
+def wires_send_once(place):
+    """Wires repeat nothing: in `live` the meters reply at most as often as they are asked, and the campaign comes to its end."""
+    status, out, said = place.run("live", "--rounds", "20", "--workers", "1", "--trace", text=SCRIPT.format("61" * 30))
+    asked, replies = (sum(word in line for line in out.splitlines()) for word in (" -> meter ", " -> head "))
+    wants((status, said) == (0, []) and "\nactivations 2\n" in out, f"it ends with {status} and {said}, and prints {out[-200:]}")
+    wants(replies <= asked, f"there are {asked} requests, and {replies} replies")
+
+
 # ---- captures
 
 
@@ -275,6 +307,63 @@ def records_come_first(place):
     wants(acts[-1] == ("send", asked) and acts[-2][0] == "record" and is_record_of(acts[-2][1], asked), f"the last calls are {acts[-2:]}")
 
 
+def records_of(content):
+    """The records of a capture: of each its time, in nanoseconds, and its packet. They are whole."""
+    at = 24
+    while at < len(content):
+        seconds, part, size, again = (int.from_bytes(content[it : it + 4], "little") for it in range(at, at + 16, 4))
+        wants(size == again and at + 16 + size <= len(content), f"at {at} the capture has {content[at:].hex()}")
+        yield seconds * 1_000_000_000 + part, content[at + 16 : at + 16 + size]
+        at += 16 + size
+
+
+# To be seen: a capture that is gone on with at its front, or behind an end that is no whole record; times that aren't in nanoseconds.
+def a_capture_is_gone_on_with(place):
+    """A capture is gone on with behind its last whole record, and each record has the time at which it was made."""
+    capture, asker = place.folder / "meter.pcap", bound()
+    content, ends, times = b"", (b"dlmsfw start", bytes.fromhex(GET_STATUS), bytes.fromhex(STATUS % 0)), [time.time_ns()]
+    for starts in (1, 2):
+        with Meter(place.folder / "meter.fw", "--capture", capture).killed() as meter:
+            asker.sendto(bytes.fromhex(GET_STATUS), meter.address)
+            received(asker)
+        before, content = content, capture.read_bytes()
+        wants(content.startswith(before), f"in place of {before.hex()} the capture has {content.hex()}")
+        found = list(records_of(content))
+        wants(len(found) == 3 * starts and all(packet.endswith(end) for (_, packet), end in zip(found, ends * starts)),
+              f"the capture has {found}")
+        times = [times[0], *(moment for moment, _ in found), time.time_ns()]
+        wants(times == sorted(times), f"its times, and the one before and after them, are {times}")
+        # What a cut may leave of a record: its sizes, four bytes of its packet, and zeros.
+        capture.write_bytes(content + content[24:44] + bytes(7))
+
+
+# To be seen: a capture that lacks strangers though they are asked for, or counts those that it has.
+def strangers_are_captured(place):
+    """With --capture-strangers a capture has what strangers send, and doesn't count them."""
+    head, capture = Head(), place.folder / "meter.pcap"
+    with Meter(place.folder / "meter.fw", "--head", head.address(), "--capture", capture, "--capture-strangers").killed() as meter:
+        status_of_all([head], Head(), [meter])
+    packets = [packet for _, packet in records_of(capture.read_bytes())]
+    requests = [packet for packet in packets if packet.endswith(bytes.fromhex(GET_STATUS))]
+    # A start, what came, of which three are the stranger's, and a reply.
+    wants((len(packets), len(requests)) == (6, 4), f"the capture has {packets}")
+
+
+# To be seen: a capture whose end is told without its file, or for another cause.
+def a_capture_that_fails_is_told(place):
+    """A run, and a daemon, whose capture can't be written end with CaptureFault, and the second line has the file, and of a daemon why."""
+    full, capture = "/dev/full", place.folder / "meter.pcap"
+    said = place.run("replay", "--capture", full, text=SCRIPT.format("61") + "tick 7 1\n")
+    wants(said == (1, "", ["dlmsfw: CaptureFault", f"--capture {full}"]), f"a run ends with {said}")
+    signal.pthread_sigmask(signal.SIG_BLOCK, [signal.SIGXFSZ])
+    meter = Meter(place.folder / "meter.fw", "--capture", capture)
+    with full_disk(meter.process):
+        bound().sendto(bytes.fromhex(GET_STATUS), meter.address)
+        status, said = meter.process.wait(PATIENCE), meter.process.stderr.read().splitlines()
+    want = f"--capture {capture}: {os.strerror(errno.EFBIG)} (os error {errno.EFBIG})"
+    wants((status, said) == (1, ["dlmsfw: CaptureFault", want]), f"a meter ends with {status} and {said}")
+
+
 # ---- verifications
 
 
@@ -325,9 +414,14 @@ STEPS = [
     a_head_end_asks_once,
     strangers_are_dropped,
     the_flight_is_kept,
+    a_socket_may_fail,
     wires_stay_on_this_machine,
     wires_are_bound_to_this_machine,
     slow_wires_are_waited_for,
+    wires_send_once,
     records_come_first,
+    a_capture_is_gone_on_with,
+    strangers_are_captured,
+    a_capture_that_fails_is_told,
     verifies_in_turns,
 ]

@@ -1,13 +1,12 @@
 """Head ends and meters as services: started again, cancelled, refused, on a full disk, and several in one process."""
 
-import contextlib
 import hashlib
 import resource
 import signal
 
 from common import HOST, PATIENCE, Failed, Head, Members, bound, comes_in, listed, name_of, received, stays_silent, wants
 from ends import ANSWERS_FAULT, GET_STATUS, SET_ENABLED, STATUS, Fleet, HeadEnd, opening, status_of
-from ports import PATIENT
+from ports import PATIENT, full_disk
 
 # What a SET gets that was done, and a GET of image_transfer_enabled that gets false.
 SET_DONE = "0001000100010004c501c100"
@@ -88,7 +87,7 @@ def refused(place, fault, about, *words, head="7", **how):
 
 
 # To be seen: a head end that leads another one's book, or one that another process has; that begins without an address; that opens under a
-# serial number that is used, or for a meter that is busy; that takes damaged bytes for a book; a fault with another name, or a status of 0.
+# serial number that is used, or for a meter that is busy; that takes damaged bytes for a book; a fault with another name, or a status of 0; another line of a list.
 def a_head_end_is_refused(place):
     """Each fault of a head end whose book is there has its name, and the option that it is about, and leaves the book as it is."""
     folder, silent = place.folder, bound()
@@ -107,6 +106,8 @@ def a_head_end_is_refused(place):
     refused(place, "NoSuchCampaign", "--cancel 3", "--cancel", "3")
     meters.write_text("2,127.0.0.1:9\n")
     refused(place, "NoAddress 1", f"--meters {meters}")
+    meters.write_text("1,127.0.0.1:9\nnone\n")
+    refused(place, "BadList 2", f"--meters {meters}")
     meters.write_text("".join(f"{number},127.0.0.1:{number}\n" for number in range(1, 258)))
     refused(place, "BadSetup", "--open 4294967295", *opening(folder, b"two", 4294967295))
     content = book.read_bytes()
@@ -117,16 +118,6 @@ def a_head_end_is_refused(place):
     mark = bytes.fromhex("0200000007000000010000000101")
     book.write_bytes(b"FWJ1\x01" + len(mark).to_bytes(4, "big") + mark + hashlib.sha256(mark).digest() + b"\x00")
     refused(place, "BadRecord 0", f"--book {book}")
-
-
-@contextlib.contextmanager
-def full_disk(process):
-    """A process that can write to no file, as on a full disk."""
-    limit = resource.prlimit(process.pid, resource.RLIMIT_FSIZE)
-    resource.prlimit(process.pid, resource.RLIMIT_FSIZE, (0, limit[1]))
-    yield
-    if process.poll() is None:
-        resource.prlimit(process.pid, resource.RLIMIT_FSIZE, limit)
 
 
 # To be seen: a store that takes what isn't written for written; a meter that ends, or doesn't answer; one that goes on with what a failed

@@ -5,13 +5,16 @@ docs/FORMATS.md.
 """
 
 import hashlib
+import os
 import pathlib
+import shutil
 import signal
 from dataclasses import dataclass
 
-from common import wants
+from common import Meter, wants
 from cuts import LOOKS, last_sync, lefts, number_of_call, power, recorded_run
 from disk import CHANGES, at_once, folder_of, key
+from ends import SET_ENABLED
 from loads import OBJECT, action, datagram, number, octets, structure
 
 STORE = "store"
@@ -201,4 +204,27 @@ def names_outlive_a_kill(place):
     judged(place, {Cut(left, 1, True) for left in lefts(disk)})
 
 
-STEPS = [stores_outlive_cuts, refused_calls_change_nothing, names_outlive_a_kill]
+# To be seen: a file that is opened though it has a second name, or though another process made it and has it; one that is taken though
+# another file got its name before it was locked; a link that is followed.
+def a_store_has_one_name_and_one_process(place):
+    """A store is refused while another process has it, which made it, if it has a second name, and if another file has its name once it is
+    locked; and one isn't made where a link leads elsewhere."""
+    def refused(why, **how):
+        said = place.run("answer", "--store", STORE, text=f"{SET_ENABLED}\n", **how)
+        wants(said == (1, "", ["dlmsfw: StoreFault", f"--store {STORE}: {why}"]), f"though {why} it ends with {said}")
+
+    with Meter(place.folder / STORE).killed():
+        refused("another process has it open")
+    other, alone = place.folder / "other", "it is a link, or no regular file, or has another name as well"
+    os.link(place.folder / STORE, other)
+    refused(alone)
+    other.unlink()
+    shutil.copy(place.folder / STORE, other)
+    refused(alone, env=place.preloaded("swap"))
+    wants((place.folder / "old").read_bytes() == (place.folder / STORE).read_bytes(), "a file is changed that has the name no more")
+    (place.folder / STORE).unlink()
+    (place.folder / f"{STORE}.new").symlink_to("nowhere")
+    refused(f"{STORE}.new: {alone}")
+
+
+STEPS = [stores_outlive_cuts, refused_calls_change_nothing, names_outlive_a_kill, a_store_has_one_name_and_one_process]
