@@ -1,5 +1,6 @@
 -- What a power cut leaves of counters, in calls and after them.
 use Rattle.std.proofs.Common.{◌≡◌, ◌⊎◌, inl, inr, ⊎_elim, ℕ, ◌<◌, ◌≤◌, ◌^◌, List, [], ◌∷◌, ◌++◌, length, IsTrue, sym, ◌∙◌, ap, subst, arith}
+use Rattle.std.specs.Prelude.{Result, Ok, Err, OnOk, OnErr}
 use Rattle.std.specs.Int.{w32, to_be_bytes}
 use Rattle.fw_journal.specs.Book.{Stands}
 use Rattle.fw_journal.specs.Device.{LeavesOnly}
@@ -98,3 +99,54 @@ module _ {D : Type 0} (J : JournalDevice.Ghosts D) where
           ⊎_elim (λ holds. weaker (device_of old) (journal.device_of after) IsEither (λ left. HasReserved left old.reserved) (moments holds) either_enough)
           (λ failed. subst (λ (j : Journal D). LeavesOnly J.moment J.left_since (device_of old) (journal.device_of j) (λ left. HasReserved left old.reserved)) (sym (same failed.broken))
           (still (device_of old) (λ left. HasReserved left old.reserved) failed.leaves)) kept
+
+    -- ---- what is reserved is written anew, as one record
+
+    module _ (old : KeptCounters D) (after : Journal D) (entry : List ℕ) (spelled : entry ≡ to_be_bytes w32 old.reserved) (fits : old.reserved < 2 ^ 32) where
+      one_size : length entry ≡ 4
+      one_size = ap (λ (l : List ℕ). length l) spelled
+
+      one_reserves : (left : List ℕ) → Stands left (entry ∷ []) → Reserves left old.reserved
+      one_reserves left stands = record {
+        records = entry ∷ [];
+        stands = stands;
+        fit = (one_size, tt);
+        bound_is = reserved_more [] entry old.reserved spelled fits (omega arith);
+      }
+
+      module _ (holds : Holds J old) where
+        pub anew_moments : LeavesOnly J.moment J.left_since (device_of old) (journal.device_of after) (λ left. Stands left holds.done ⊎ Stands left (entry ∷ []))
+            → LeavesOnly J.moment J.left_since (device_of old) (journal.device_of after) (λ left. Reserves left old.reserved)
+        anew_moments leaves =
+            weaker (device_of old) (journal.device_of after) (λ left. Stands left holds.done ⊎ Stands left (entry ∷ [])) (λ left. Reserves left old.reserved) leaves
+            (λ left stands. ⊎_elim (λ before. record { records = holds.done; stands = before; fit = holds.fit; bound_is = holds.reserved_is }) (λ later. one_reserves left later) stands)
+
+        pub anew_holds : journal.Has J.honest J.contents J.may_leave after (entry ∷ []) [] → Holds J (record old { journal = after })
+        anew_holds has = record {
+          done = entry ∷ [];
+          has = has;
+          fit = (one_size, tt);
+          reserved_is = reserved_more [] entry old.reserved spelled fits (omega arith);
+          within = holds.within;
+        }
+
+        pub anew_fails : journal.Has J.honest J.contents J.may_leave after holds.done [] ⊎ IsTrue (journal.is_broken after)
+            → LeavesOnly J.moment J.left_since (device_of old) (journal.device_of after) (λ left. Stands left holds.done ⊎ Stands left (entry ∷ []))
+            → IsKept J (record old { journal = after })
+        anew_fails unchanged leaves =
+            let moments = anew_moments leaves in
+            ⊎_elim (λ back. inl (record { done = holds.done; has = back; fit = holds.fit; reserved_is = holds.reserved_is; within = holds.within }))
+            (λ broken. inr (record {
+              broken = broken;
+              leaves = λ left now.
+                  let is = moments.each left (counts (journal.device_of after) (J.moment (device_of old)) left moments.later now) in
+                  record { all = old.reserved; reserves = is; enough = omega arith };
+              within = holds.within;
+            })) unchanged
+
+        pub anew_stays : {X E : Type 0} (result : Result X E) → OnOk result (journal.Has J.honest J.contents J.may_leave after (entry ∷ []) [])
+            → OnErr result (journal.Has J.honest J.contents J.may_leave after holds.done [] ⊎ IsTrue (journal.is_broken after))
+            → LeavesOnly J.moment J.left_since (device_of old) (journal.device_of after) (λ left. Stands left holds.done ⊎ Stands left (entry ∷ []))
+            → IsKept J (record old { journal = after })
+        anew_stays (Ok v) has unchanged leaves = inl (anew_holds has)
+        anew_stays (Err e) has unchanged leaves = anew_fails unchanged leaves

@@ -19,6 +19,7 @@ ghost use Rattle.std.specs.Prelude.{
   IsOk,
   IsErrOf,
   IsTrue,
+  false,
 };
 ghost use Rattle.fw_journal.specs.Book.{Drops, Stands};
 ghost use Rattle.fw_journal.specs.Device.{LeavesOnly, Keeps};
@@ -29,8 +30,8 @@ ghost use Rattle.fw_counter.specs.Reserved.{HasNoCounter, HasReserved, Reserves}
 ghost use Rattle.fw_counter.specs.Refusals.{IsOpeningRefusal, IsTakingRefusal};
 
 use crate::error::CounterError;
-use crate::reading::bound_of;
-use fw_journal::{Journal, JournalDevice, JournalError, Keeper};
+use crate::reading::{bound_of, reservation_of};
+use fw_journal::{Journal, JournalDevice, JournalError, Keeper, Replacer, RewriteError};
 use std::alloc::Global;
 
 /// How many counters are reserved at a time.
@@ -220,6 +221,35 @@ impl<D: JournalDevice> KeptCounters<D> {
         let number = self.next;
         self.next = number + 1;
         Ok(number)
+    }
+
+    /// Writes what is reserved anew, as one record, in the place of all records: the new bytes are made beside the old ones. Who had the
+    /// device before may have ended since it failed, and then a sync of the old bytes may return `Ok` though a part of them isn't there.
+    ///
+    /// # Errors
+    ///
+    /// Those of a journal that is rewritten: `NotReplaced`, `BookFault` and `OutOfMemory`. The counter is as before then.
+    pub fn compact<R: Replacer<D>>(
+        &mut self,
+        alloc: Global,
+        replacer: &mut R,
+    ) -> Result<(), RewriteError>
+        ensures same { counter_of self.new ≡ counter_of self.old }
+        ensures anew { OnOk result (R.made replacer.new (device_of self.new)) }
+        ensures acknowledged { Holds D.JournalDevice self.old → OnOk result (Holds D.JournalDevice self.new) }
+
+        // A cut at any moment of the call leaves records that reserve what is reserved before it and after it.
+        ensures any_moment { Holds D.JournalDevice self.old → LeavesOnly D.moment D.left_since (device_of self.old) (device_of self.new)
+            (λ left. Reserves left (counter_of self.old).reserved) }
+        ensures stays { IsKept D.JournalDevice self.old → IsKept D.JournalDevice self.new }
+        ensures goes_on { IsErrOf result RewriteError.NotReplaced → is_broken self.new ≡ false }
+        ensures never { IsTrue (D.sound (device_of self.old)) → IsErrOf result RewriteError.BookFault → IsTrue (is_broken self.old) }
+        ensures replaced { IsTrue (D.sound (device_of self.old)) → ¬ IsErrOf result RewriteError.NotReplaced }
+    {
+        let Ok(records) = reservation_of(alloc, self.reserved) else {
+            return Err(RewriteError::OutOfMemory);
+        };
+        self.journal.rewrite(alloc, replacer, &records)
     }
 
     /// Reserves a range more, where all reserved counters are used.

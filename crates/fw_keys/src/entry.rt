@@ -1,5 +1,7 @@
 //! Links as a key file has them.
 
+ghost use Rattle.std.specs.Prelude.{◌≡◌};
+
 use fw_seal::TITLE_SIZE;
 
 /// How many bytes a key has.
@@ -18,4 +20,13 @@ pub struct LinkKeys {
 pub struct Entry<N> {
     pub(crate) end: N,
     pub(crate) keys: LinkKeys,
+}
+
+impl<N> Entry<N> {
+    /// The name of the other end.
+    pub fn end(&self) -> &N
+        ensures { result.now ≡ self.now.end }
+    {
+        &self.end
+    }
 }

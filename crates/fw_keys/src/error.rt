@@ -8,7 +8,7 @@ use std::fmt;
 use thiserror::Error;
 
 /// What is wrong with a line of a key file.
-#[derive(Clone, Copy, Debug, Error)]
+#[derive(Clone, Copy, Debug, PartialEq, Eq, Error)]
 pub enum BadLine {
     /// The first line of a meter's file isn't its system title, 16 hexadecimal digits.
     BadTitle,

@@ -49,7 +49,7 @@ impl<N: EndName> KeyFile<N> {
     }
 
     /// The links, in the order of the lines.
-    pub(crate) fn entries(&self) -> &[Entry<N>]
+    pub fn entries(&self) -> &[Entry<N>]
         ensures entries { result.now ≡ self.now.entries }
         ensures links { AreLinks self.now.own self.now.entries }
     {

@@ -1,10 +1,12 @@
 //! Key files: what texts spell, why they are refused, and what is made and written.
 
 use crate::book::{head, meter};
+use fw_key_files::{MakingKeys, Randomness, new_files};
 use fw_keys::{EndName, KeyFile, head_text, meter_text, read_head_keys, read_meter_keys};
 use fw_names::MeterId;
 use fw_seal::Counters;
 use std::alloc::Global;
+use std::cell::Cell;
 use std::net::SocketAddr;
 use std::test::Fail;
 use test_tables::{Reads, Words, each_line, expect, named, present};
@@ -181,6 +183,84 @@ fn refused(
         Ok(()) => Err("a link that can't stand there".into()),
         Err(refusal) => expect(alloc, at, refusal.to_string(alloc)?.as_str(), why),
     }
+}
+
+/// A source whose bytes count on from those before by so many.
+#[derive(Drop)]
+struct Counting {
+    next: Cell<u8>,
+    by: u8,
+}
+
+impl Randomness for Counting {
+    ghost gave = { λ _ _. Unit {0} };
+
+    fn give(&self) -> Option<[u8; 32]> {
+        let first = self.next.get();
+        self.next.set(first.wrapping_add(self.by));
+        Some(random(first))
+    }
+}
+
+/// The files of new keys of head end 7 at [::1]:4058 and these meters, each with a line for its path before its text. Or why there are none.
+fn new_texts(alloc: Global, meters: &[MeterId], by: u8) -> Result<String, Fail> {
+    let source = Counting {
+        next: Cell::new(0),
+        by,
+    };
+    let making = MakingKeys {
+        head: head(7)?,
+        address: "[::1]:4058".parse()?,
+        meters,
+        folder: "keys",
+    };
+    let files = match new_files(&source, alloc, &making) {
+        Ok(files) => files,
+        Err(error) => return Ok(error.to_string(alloc)?),
+    };
+    let mut told = String::new(alloc);
+    for file in &files {
+        let (path, text) = (file.path(), str::from_utf8(file.text())?);
+        write!(told, "{path}\n{text}")?;
+    }
+    Ok(told)
+}
+
+const NEW_TEXTS: &str = "keys/head.keys\n\
+    5,4b5a424d00000005,000102030405060708090a0b0c0d0e0f,101112131415161718191a1b1c1d1e1f\n\
+    4294967295,4b5a424dffffffff,202122232425262728292a2b2c2d2e2f,303132333435363738393a3b3c3d3e3f\n\
+    keys/meter.5.keys\n\
+    4b5a424d00000005\n\
+    [::1]:4058,4b5a424800000007,000102030405060708090a0b0c0d0e0f,101112131415161718191a1b1c1d1e1f\n\
+    keys/meter.4294967295.keys\n\
+    4b5a424dffffffff\n\
+    [::1]:4058,4b5a424800000007,202122232425262728292a2b2c2d2e2f,303132333435363738393a3b3c3d3e3f\n";
+
+#[test]
+fn new_files_have_new_keys(rt: HostRuntime) -> Result<(), Fail> {
+    let alloc = rt.alloc();
+    let meters = [meter(5)?, meter(u32::MAX)?];
+    expect(alloc, 0, new_texts(alloc, &meters, 32)?.as_str(), NEW_TEXTS)?;
+    // The same bytes twice, and a meter twice.
+    expect(
+        alloc,
+        1,
+        new_texts(alloc, &meters, 0)?.as_str(),
+        "NoRandomness",
+    )?;
+    let twice = [meter(5)?, meter(6)?, meter(5)?];
+    expect(
+        alloc,
+        2,
+        new_texts(alloc, &twice, 32)?.as_str(),
+        "BadKeys 3 NameTwice",
+    )?;
+    expect(
+        alloc,
+        3,
+        new_texts(alloc, &[], 32)?.as_str(),
+        "keys/head.keys\n",
+    )
 }
 
 #[test]

@@ -1,5 +1,5 @@
 //! Tests of a client of a meter, of the book of campaigns, its records and how it is kept, of the head end, of the daemon of a head end, of
-//! counters and of key files, through their public calls. Expected bytes are worked out by hand from the standards and the formats, and SHA-256 values are the published
+//! what decides in a rollout, of counters and of key files, through their public calls. Expected bytes are worked out by hand from the standards and the formats, and SHA-256 values are the published
 //! ones or those of `sha256sum`.
 #![tactic(auto)]
 
@@ -31,6 +31,8 @@ mod openings;
 mod outstanding;
 #[cfg(test)]
 mod parts;
+#[cfg(test)]
+mod plans;
 #[cfg(test)]
 mod readings;
 #[cfg(test)]

@@ -1,0 +1,3 @@
+mod Linked
+mod Made
+mod Refused

@@ -1,0 +1,167 @@
+//! The files of the operating system that their owner alone may read and write.
+
+ghost use Rattle.std.specs.Prelude.{◌≡◌, ◌⊎◌, ◌++◌, Contains, IfErr, IfOk, MatchResult, OnOk, map};
+ghost use Rattle.std.specs.Io.KnownBytes.{Consumes, IsAtEnd};
+ghost use Rattle.fw_disk.specs.Causes.{IsOfSystem};
+ghost use Rattle.fw_key_files.specs.Making.{KeyText};
+ghost use Rattle.fw_key_files.specs.Refusals.{IsOfSystemFile, IsPrivate};
+ghost use Rattle.fw_key_files.specs.declared.error.KeyFileError.TheVariants.{KeysFault, KeysReadable, OutOfMemory};
+
+use crate::error::{KeyFileError, NotMade};
+use crate::new_file::NewFile;
+use fw_disk::{Because, Cause, Folder, Name, SystemFolder};
+use std::alloc::Global;
+use std::fs;
+use std::fs::{File, Metadata, OpenOptions};
+use std::io::{ErrorKind, Read, Write};
+use std::os::unix::fs::{MetadataExt, OpenOptionsExt};
+use std::rt::Files;
+
+/// The permission bits of a file that its owner alone may read and write.
+const OWNER_ALONE: u32 = 0o600;
+
+/// The permission bits of all others: of the group, and of who isn't in it.
+const OTHERS: u32 = 0o077;
+
+/// How many bytes are read at a time.
+const CHUNK: usize = 4096;
+
+/// The most times that a file is asked: as often as 64 MiB take, and once more for the end.
+const MAX_READS: u32 = 16_385;
+
+/// The fault of a call of the system.
+fn fault(cause: Cause) -> Because<KeyFileError>
+    ensures { result.error ≡ KeysFault }
+{
+    Because::of(KeyFileError::KeysFault, cause.at(Name::Main))
+}
+
+/// The bytes of the file at this path, if its owner alone may read and write it. What it may is that of the file which was opened, so no other
+/// can come in its place.
+///
+/// # Errors
+///
+/// - `KeysFault`, with its cause: the file can't be opened or read, or is no regular file; without one where it has more than 64 MiB.
+/// - `KeysReadable`: others may read or write it.
+/// - `OutOfMemory`.
+pub(crate) fn read_private<R: Files<File = File>>(
+    rt: &R,
+    alloc: Global,
+    path: &str,
+) -> Result<Vec<u8>, Because<KeyFileError>>
+    ensures { IfErr result (λ b. IsOfSystemFile b.error) }
+{
+    let mut file = match File::open(rt, path) {
+        Ok(file) => file,
+        Err(error) => return Err(fault(Cause::from(error))),
+    };
+    match file.metadata() {
+        Ok(metadata) => check_private(&metadata)?,
+        Err(error) => return Err(fault(Cause::from(error))),
+    }
+    read_all(alloc, &mut file)
+}
+
+/// Checks that a file is a regular one, and that nobody but its owner may do anything with it.
+fn check_private(metadata: &Metadata) -> Result<(), Because<KeyFileError>>
+    ensures private { MatchResult result (λ _. IsPrivate metadata.now) (λ _. ¬ IsPrivate metadata.now) }
+    ensures faults { IfErr result (λ b. IsOfSystemFile b.error) }
+{
+    if !metadata.is_file() {
+        return Err(fault(Cause::NotAlone));
+    }
+    if metadata.mode() & OTHERS == 0 {
+        Ok(())
+    } else {
+        Err(Because::from(KeyFileError::KeysReadable))
+    }
+}
+
+/// All that a reader has. A read that was interrupted counts as one.
+///
+/// # Errors
+///
+/// - `KeysFault`, with its cause: the reader failed; without one where it isn't at its end after the reads that 64 MiB take.
+/// - `OutOfMemory`.
+fn read_all<R: Read>(alloc: Global, reader: &mut R) -> Result<Vec<u8>, Because<KeyFileError>>
+    ensures all { IfOk result (λ text. Consumes (R.remaining reader.old) (R.remaining reader.new) text.items) }
+    ensures end { OnOk result (IsAtEnd (R.remaining reader.new)) }
+    ensures faults { IfErr result (λ b. IsOfSystemFile b.error) }
+{
+    let mut text = Vec::new(alloc);
+    let mut chunk = [0; CHUNK];
+    for _ in 0..MAX_READS {
+        match reader.read(&mut chunk) {
+            Ok(0) => return Ok(text),
+            Ok(count) => put(&mut text, &chunk[..count])?,
+            Err(error) if error.kind() == ErrorKind::Interrupted => {}
+            Err(error) => return Err(fault(Cause::from(error))),
+        }
+    }
+    Err(Because::from(KeyFileError::KeysFault))
+}
+
+/// Appends bytes to a text.
+fn put(text: &mut Vec<u8>, bytes: &[u8]) -> Result<(), KeyFileError>
+    ensures put { OnOk result (text.new.items ≡ text.old.items ++ bytes.now) }
+    ensures faults { IfErr result (λ e. e ≡ OutOfMemory) }
+{
+    text.extend_from_slice(bytes)?;
+    Ok(())
+}
+
+/// Makes these files, which their owner alone may read and write from the start. Each has its whole text, and a power cut leaves them. No file is
+/// written over.
+///
+/// # Errors
+///
+/// The first file that can't be made, and why: `Exists` where another file has its path, which is left as it is. Those that were made before it
+/// are removed.
+pub fn make_files<R: Files<File = File>>(rt: &R, files: &[NewFile]) -> Result<(), NotMade>
+    // Of the system's files nothing is known.
+    ensures { IfErr result (λ n. Contains (map (λ (file : KeyText). file.owner) files.now) n.owner) }
+{
+    for at in 0..files.len() {
+        let file = &files[at];
+        if let Err(cause) = make(rt, file) {
+            remove(rt, &files[..at]);
+            return Err(NotMade {
+                owner: file.owner(),
+                cause,
+            });
+        }
+    }
+    Ok(())
+}
+
+/// Makes a file. Where that fails once it was there, it is removed.
+fn make<R: Files<File = File>>(rt: &R, new: &NewFile) -> Result<(), Cause>
+    ensures { IfErr result IsOfSystem }
+{
+    let mut options = OpenOptions::new();
+    options.write(true).create_new(true).mode(OWNER_ALONE);
+    let mut file = options.open(rt, new.path())?;
+    match fill(rt, &mut file, new) {
+        Ok(()) => Ok(()),
+        Err(cause) => {
+            let _ = fs::remove_file(rt, new.path());
+            Err(cause)
+        }
+    }
+}
+
+/// Gives a file its text, and syncs it and its folder.
+fn fill<R: Files<File = File>>(rt: &R, file: &mut File, new: &NewFile) -> Result<(), Cause>
+    ensures { IfErr result IsOfSystem }
+{
+    file.write_all(new.text())?;
+    file.sync_all()?;
+    SystemFolder::of(rt, new.path())?.sync_folder()
+}
+
+/// Removes these files again.
+fn remove<R: Files<File = File>>(rt: &R, files: &[NewFile]) {
+    for file in files {
+        let _ = fs::remove_file(rt, file.path());
+    }
+}

@@ -1,0 +1,5 @@
+mod Campaigns
+mod Contacts
+mod Gates
+mod Lists
+mod Serials

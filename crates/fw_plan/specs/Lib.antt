@@ -1,0 +1,7 @@
+-- Public vocabulary: the words of public clauses, for callers and readers.
+pub mod Waves
+pub mod Window
+pub mod Silence
+pub mod Openings
+-- For private clauses alone: no public clause cites it.
+pub mod Private

@@ -1,0 +1,239 @@
+//! What decides in a rollout: waves, windows, silent meters, and what a list lacks.
+
+use crate::book::{after, image, meters};
+use fw_book::{Book, RowState};
+use fw_plan::{
+    Contact, Deadline, MaxFailed, WaveRow, Window, gate_of, is_over, lacking, next_free, unlisted,
+};
+use std::alloc::Global;
+use std::test::Fail;
+use test_tables::{Reads, Words, each_part};
+
+/// What a rollout is told:
+///
+/// - `gate THRESHOLD WAVE-STATE..`: how far the waves of these rows are, and the places of those that may be asked
+/// - `over WAVE WAVE-STATE..`: whether the wave is over
+/// - `window TIME NOW ACTIVATES`: whether a row may be asked at this time
+/// - `silence HOURS STATE NOW EVENT-TIME..`: whether a row is given up after these events, of which each is `asked` or `heard`
+/// - `lacking SERIAL RELEASE IMAGE METER..; CALLS`: which of the meters lack a row in the book after these calls, as `crate::book` has them
+/// - `free SERIAL; CALLS`: the next serial number that is free
+/// - `unlisted METER..; CALLS`: the live rows whose meter isn't one of these
+#[derive(Clone, Copy)]
+struct Plans;
+
+impl Reads for Plans {
+    fn told(&mut self, alloc: Global, what: &str) -> Result<String, Fail> {
+        let mut words = Words::new(what);
+        match words.word()? {
+            "gate" => gate_text(alloc, words),
+            "over" => {
+                let wave: u8 = words.read()?;
+                let is_over = is_over(&rows(alloc, words.rest())?, wave);
+                Ok(format!(in alloc; "{is_over}")?)
+            }
+            "window" => window_text(alloc, words),
+            "silence" => silence_text(alloc, words),
+            how => {
+                let (what, calls) = words.rest().split_once(';').unwrap_or(("", ""));
+                book_text(alloc, how, Words::new(what), &after(alloc, calls)?.0)
+            }
+        }
+    }
+}
+
+fn gate_text(alloc: Global, mut words: Words<'_>) -> Result<String, Fail> {
+    let threshold = threshold(words.word()?)?;
+    let rows = rows(alloc, words.rest())?;
+    let gate = gate_of(&rows, threshold);
+    let mut asked = Vec::new(alloc);
+    for (place, row) in rows.iter().enumerate() {
+        if gate.may_ask(*row) {
+            asked.push(place)?;
+        }
+    }
+    Ok(format!(in alloc; "{gate:?} {:?}", asked.as_slice())?)
+}
+
+/// So many rows, or so many in a hundred.
+fn threshold(word: &str) -> Result<MaxFailed, Fail> {
+    Ok(match word.strip_suffix('%') {
+        Some(percent) => MaxFailed::Percent(percent.parse::<u8>()?),
+        None => MaxFailed::Rows(word.parse::<u32>()?),
+    })
+}
+
+fn rows(alloc: Global, text: &str) -> Result<Vec<WaveRow>, Fail> {
+    let mut rows = Vec::new(alloc);
+    for word in text.split(' ') {
+        if let Some((wave, state)) = word.split_once('-') {
+            let wave = wave.parse::<u8>()?;
+            let state = state_of(state)?;
+            rows.push(WaveRow { wave, state })?;
+        }
+    }
+    Ok(rows)
+}
+
+fn state_of(word: &str) -> Result<RowState, Fail> {
+    match word {
+        "live" => Ok(RowState::Live),
+        "done" => Ok(RowState::Done),
+        "failed" => Ok(RowState::Failed),
+        "cancelled" => Ok(RowState::Cancelled),
+        _ => Err("no row has this state".into()),
+    }
+}
+
+fn window_text(alloc: Global, mut words: Words<'_>) -> Result<String, Fail> {
+    let window = match words.word()? {
+        "always" => Window::Always,
+        time => Window::From(time.parse::<u64>()?),
+    };
+    let now: u64 = words.read()?;
+    let lets = window.lets(now, words.word()? == "activates");
+    Ok(format!(in alloc; "{lets}")?)
+}
+
+fn silence_text(alloc: Global, mut words: Words<'_>) -> Result<String, Fail> {
+    let deadline = match words.word()? {
+        "never" => Deadline::Never,
+        hours => Deadline::Hours(hours.parse::<u32>()?),
+    };
+    let state = state_of(words.word()?)?;
+    let now: u64 = words.read()?;
+    let gives_up = deadline.gives_up(state, contact(words.rest())?, now);
+    Ok(format!(in alloc; "{gives_up}")?)
+}
+
+/// The contact with a meter after these events.
+fn contact(events: &str) -> Result<Contact, Fail> {
+    let mut contact = Contact::NONE;
+    for event in events.split(' ') {
+        contact = match event.split_once('-') {
+            Some(("asked", time)) => contact.asked_at(time.parse::<u64>()?),
+            Some(("heard", time)) => contact.heard_at(time.parse::<u64>()?),
+            _ => contact,
+        };
+    }
+    Ok(contact)
+}
+
+fn book_text(alloc: Global, how: &str, mut words: Words<'_>, book: &Book) -> Result<String, Fail> {
+    match how {
+        "lacking" => {
+            let (serial, release, word): (u32, u32, &str) = words.read()?;
+            let list = meters(alloc, words.rest())?;
+            let lacking = lacking(alloc, book, serial, release, image(word), &list)?;
+            let mut numbers = Vec::new(alloc);
+            for meter in &lacking {
+                numbers.push(meter.number())?;
+            }
+            Ok(format!(in alloc; "{:?}", numbers.as_slice())?)
+        }
+        "free" => {
+            let free = next_free(book, words.number()?.max(1));
+            Ok(format!(in alloc; "{free:?}")?)
+        }
+        "unlisted" => {
+            let list = meters(alloc, words.rest())?;
+            let mut rows = Vec::new(alloc);
+            for row in &unlisted(alloc, book, &list)? {
+                rows.push((row.serial, row.meter.number()))?;
+            }
+            Ok(format!(in alloc; "{:?}", rows.as_slice())?)
+        }
+        _ => Err("a plan has nothing of this name".into()),
+    }
+}
+
+/// A later wave waits until the earlier ones ended, and for good where too many of their rows failed. Cancelled rows didn't fail.
+const GATES: &str = "
+    gate 0                                        => Over []
+    gate 0 0-live 0-live                          => Open(0) [0, 1]
+    gate 0 3-live 1-live 3-live 1-done            => Open(1) [1]
+    gate 0 0-done 1-live 255-live                 => Open(1) [1]
+    gate 0 0-live 0-failed 1-live                 => Open(0) [0]
+    gate 0 0-done 0-failed 1-live                 => TooManyFailed(TooManyFailed { wave: 1, failed: 1, rows: 2 }) []
+    gate 1 0-done 0-failed 1-live                 => Open(1) [2]
+    gate 1 0-failed 1-failed 2-live 1-done        => TooManyFailed(TooManyFailed { wave: 2, failed: 2, rows: 3 }) []
+    gate 0 0-cancelled 0-cancelled 1-live         => Open(1) [2]
+    gate 0 0-done 0-failed                        => Over []
+    gate 0 1-failed 0-done 1-live                 => Open(1) [2]
+    gate 49% 0-done 0-failed 1-live               => TooManyFailed(TooManyFailed { wave: 1, failed: 1, rows: 2 }) []
+    gate 50% 0-done 0-failed 1-live               => Open(1) [2]
+    gate 33% 0-done 0-done 0-failed 1-live        => TooManyFailed(TooManyFailed { wave: 1, failed: 1, rows: 3 }) []
+    gate 34% 0-done 0-done 0-failed 1-live        => Open(1) [3]
+    gate 50% 0-cancelled 0-failed 1-live          => Open(1) [2]
+    gate 0% 5-live                                => Open(5) [0]
+    gate 100% 0-failed 7-live                     => Open(7) [1]
+    over 0 0-done 0-failed 0-cancelled 1-live     => true
+    over 1 0-done 1-done 1-live                   => false
+    over 2 0-live                                 => true
+";
+
+/// The time of the moment alone decides, and only of what activates.
+const WINDOWS: &str = "
+    window 1000 999 activates   => false
+    window 1000 1000 activates  => true
+    window 1000 5000 activates  => true
+    window 1000 999 polls       => true
+    window always 0 activates   => true
+";
+
+/// Two hours are 7,200 seconds.
+const SILENCES: &str = "
+    silence 2 live 7300 asked-100                       => true
+    silence 2 live 7299 asked-100                       => false
+    silence 2 live 7300 asked-100 asked-7000            => true
+    silence 2 live 9000                                 => false
+    silence 2 live 9000 asked-100 heard-200             => false
+    silence 2 live 9000 asked-100 heard-200 asked-8000  => false
+    silence 2 live 15200 asked-100 heard-200 asked-8000 => true
+    // the clock was set back after the meter was heard
+    silence 2 live 7300 asked-50 heard-9000 asked-100   => false
+    silence 2 live 50 asked-100                         => false
+    silence 2 done 7300 asked-100                       => false
+    silence 2 failed 7300 asked-100                     => false
+    silence 2 cancelled 7300 asked-100                  => false
+    silence never live 7300 asked-100                   => false
+    silence 0 live 100 asked-100                        => true
+";
+
+/// A row of any state is one, in a campaign of that image and release from the serial number on.
+const LACKING: &str = "
+    lacking 1 0 abc 3 1 2;                                             => [3, 1, 2]
+    lacking 1 0 abc 3 1 2; open 7 1 0 abc 1                            => [3, 2]
+    lacking 1 0 abc 3 1 2; open 7 1 0 abc 1; fail 7 1 1                => [3, 2]
+    lacking 1 0 abc 3 1 2; open 7 4 0 abc 1 2; cancel 7 4              => [3]
+    lacking 2 0 abc 3 1 2; open 7 1 0 abc 1                            => [3, 1, 2]
+    lacking 1 5 abc 3 1 2; open 7 1 0 abc 1                            => [3, 1, 2]
+    lacking 1 5 abc 3 1 2; open 7 1 5 abc 1                            => [3, 2]
+    lacking 1 0 abd 3 1 2; open 7 1 0 abc 1                            => [3, 1, 2]
+    lacking 1 0 ab 3 1 2; open 7 1 0 abc 1                             => [3, 1, 2]
+    lacking 1 0 abc 1 2; open 7 1 0 abc 1; open 7 2 0 abd 3; open 7 3 0 abc 2 => []
+    lacking 1 0 abc; open 7 1 0 abc 1                                  => []
+    lacking 0 0 abc 2 1; open 7 1 0 abc 1                              => [2]
+    lacking 4294967295 0 abc 2 1; open 7 4294967295 0 abc 2            => [1]
+";
+
+const FREE: &str = "
+    free 1;                                              => Some(1)
+    free 1; open 7 2 0 abc 1                             => Some(1)
+    free 1; open 7 1 0 abc 1; open 7 2 0 abc 2           => Some(3)
+    free 4294967295; open 7 4294967295 0 abc 1           => None
+";
+
+const UNLISTED: &str = "
+    unlisted 1 2; open 7 5 0 abc 1 3 4; open 7 2 0 abd 2; fail 7 5 4 => [(5, 3)]
+    unlisted ; open 7 5 0 abc 3 1; open 7 2 0 abd 2                  => [(5, 3), (5, 1), (2, 2)]
+    unlisted 1; open 7 5 0 abc 1; cancel 7 5                         => []
+";
+
+#[test]
+fn rollouts_are_decided(rt: HostRuntime) -> Result<(), Fail> {
+    each_part(
+        rt.alloc(),
+        &mut Plans,
+        &[GATES, WINDOWS, SILENCES, LACKING, FREE, UNLISTED],
+    )
+}
