@@ -38,7 +38,7 @@ pub record SameOutside (from to : ℕ) (a b : List ℕ) : Type 0 where
   pub front : take from b ≡ take from a
   pub back : drop to b ≡ drop to a
 
--- The files between two header writes, where all that was written since the last one is in FILE between these places: nothing else is
+-- The files between two header writes, if all that was written since the last one is in FILE between these places: nothing else is
 -- left otherwise than it is read, and however these bytes are left, an opening leaves FILE as it is.
 pub record IsAtRest (from to : ℕ) (seen : Seen) : Type 0 where
   pub found : (part : Part) → NoneLost part seen

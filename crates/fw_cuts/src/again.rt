@@ -13,7 +13,7 @@ const PIECE_SIZE: usize = 4096;
 ///
 /// # Errors
 ///
-/// `FilesFault` where the disk failed.
+/// `FilesFault` if the disk failed.
 pub(crate) fn write_again<F: StoreFiles>(files: &mut F) -> Result<(), FilesFault>
     ensures { IsTrue F.honest → OnOk result (IsWrittenAgain (F.seen files.old) (F.seen files.new)) }
 {

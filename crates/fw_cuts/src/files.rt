@@ -44,7 +44,7 @@ impl fmt::Display for FilesFault {
 /// - A disk writes whole sectors of 512 bytes. Until a file is synced, a cut leaves of each write of it any sectors as before and the others
 ///   as they were written, in any order, and of each change of its length the one or the other.
 /// - A sync that fails may lose bytes of the file: the system shows them, but no later sync brings them to the disk, until they are written
-///   again. Where none is lost, all is on the disk once a sync has returned `Ok`.
+///   again. If none is lost, all is on the disk once a sync has returned `Ok`.
 pub trait StoreFiles {
     /// Whether they keep what is said here.
     ghost honest: { Bool };
@@ -56,7 +56,7 @@ pub trait StoreFiles {
     ///
     /// # Errors
     ///
-    /// `FilesFault` where the disk failed.
+    /// `FilesFault` if the disk failed.
     fn len(&mut self, part: Part) -> Result<u64, FilesFault>
         ensures done { IsTrue honest → IfOk result (λ len. len ≡ length (of part (seen self.old).held)) }
         ensures lost { IsTrue honest → LosesNoMore (seen self.old) (seen self.new) }
@@ -66,7 +66,7 @@ pub trait StoreFiles {
     ///
     /// # Errors
     ///
-    /// `FilesFault` where the disk failed. The file may have either length then.
+    /// `FilesFault` if the disk failed. The file may have either length then.
     fn set_len(&mut self, part: Part, len: u64) -> Result<(), FilesFault>
         ensures done { IsTrue honest
             → OnOk result (On part (Resizes len) (seen self.old).held (seen self.new).held) }
@@ -77,7 +77,7 @@ pub trait StoreFiles {
     ///
     /// # Errors
     ///
-    /// `FilesFault` where the disk failed. `out` may then have any bytes.
+    /// `FilesFault` if the disk failed. `out` may then have any bytes.
     fn read_at(&mut self, part: Part, at: u64, out: &mut [u8]) -> Result<(), FilesFault>
         requires { IsTrue honest → at + length out.old ≤ length (of part (seen self.old).held) }
         ensures done { IsTrue honest
@@ -89,7 +89,7 @@ pub trait StoreFiles {
     ///
     /// # Errors
     ///
-    /// `FilesFault` where the disk failed. Any sectors of the range may then have these bytes.
+    /// `FilesFault` if the disk failed. Any sectors of the range may then have these bytes.
     fn write_at(&mut self, part: Part, at: u64, bytes: &[u8]) -> Result<(), FilesFault>
         requires { IsTrue honest → at + length bytes.now ≤ length (of part (seen self.old).held) }
         ensures done { IsTrue honest
@@ -102,7 +102,7 @@ pub trait StoreFiles {
     ///
     /// # Errors
     ///
-    /// `FilesFault` where the disk failed. Any bytes of the file that weren't on the disk may be lost then.
+    /// `FilesFault` if the disk failed. Any bytes of the file that weren't on the disk may be lost then.
     fn sync(&mut self, part: Part) -> Result<(), FilesFault>
         ensures done { IsTrue honest → NoneLost part (seen self.old) → OnOk result (IsSynced part (seen self.new)) }
         ensures lost { IsTrue honest → OnOk result (LosesNoMore (seen self.old) (seen self.new)) }

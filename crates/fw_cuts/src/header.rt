@@ -10,7 +10,7 @@ use crate::files::{FilesFault, Part, StoreFiles};
 use crate::journal::put_journal;
 use crate::parts::write_parts;
 use crate::reading::{read_both, size_from};
-use crate::recovery::{put_back, rest};
+use crate::recovery::{put_back, settle};
 use fw_undo::{HeaderWrite, JournalBytes};
 
 /// The most bytes of a header that stand before the slots.
@@ -50,7 +50,7 @@ impl Scratch {
 ///
 /// # Errors
 ///
-/// `FilesFault` where the disk failed, or where the write is none of a header: it has more than 614 bytes in front, there are more
+/// `FilesFault` if the disk failed, or if the write is none of a header: it has more than 614 bytes in front, there are more
 /// than 1,544 at the end of FILE, or the first part doesn't end where the last one begins, or before. It has to be taken back then, before
 /// the next one: `take_back` makes FILE as it was.
 pub fn replace<F: StoreFiles>(
@@ -100,7 +100,7 @@ pub fn replace<F: StoreFiles>(
 ///
 /// # Errors
 ///
-/// `FilesFault` where the disk failed. It is still to be taken back.
+/// `FilesFault` if the disk failed. It is still to be taken back.
 pub fn take_back<F: StoreFiles>(files: &mut F, scratch: &mut Scratch) -> Result<(), FilesFault>
     ensures done { IsTrue F.honest
         → OnOk result (IsTakenBack scratch.old.failed (F.seen files.old).held.store (F.seen files.new).held.store) }
@@ -108,7 +108,7 @@ pub fn take_back<F: StoreFiles>(files: &mut F, scratch: &mut Scratch) -> Result<
     ensures at_rest { IsTrue F.honest → OnOk result ((from to : ℕ) → IsAtRest from to (F.seen files.new)) }
 {
     put_back(files, &scratch.failed)?;
-    rest(files)?;
+    settle(files)?;
     scratch.failed = None;
     Ok(())
 }

@@ -64,7 +64,7 @@ fn replace_journal<F: StoreFiles>(files: &mut F, bytes: &[u8]) -> Result<(), Fil
     files.sync(Part::Journal)
 }
 
-/// Takes all bytes from FILE.journal, and syncs that, also where it has none: an earlier call may have cut it and failed in its sync. No
+/// Takes all bytes from FILE.journal, and syncs that, also if it has none: an earlier call may have cut it and failed in its sync. No
 /// byte of it is lost then, whatever was.
 pub(crate) fn empty_journal<F: StoreFiles>(files: &mut F) -> Result<(), FilesFault>
     ensures done { IsTrue F.honest → OnOk result ((F.seen files.new).held.journal ≡ []) }

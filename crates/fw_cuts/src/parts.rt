@@ -88,7 +88,7 @@ pub(crate) fn write_both<F: StoreFiles>(
     files.write_at(Part::Store, at, bytes)
 }
 
-/// Cuts FILE to this length, or adds zeros up to it. Where it is cut that is synced, so that no byte written afterwards is found among
+/// Cuts FILE to this length, or adds zeros up to it. If it is cut, that is synced, so that no byte written afterwards is found among
 /// those that are cut off.
 fn fit<F: StoreFiles>(files: &mut F, len: u64) -> Result<(), FilesFault>
     ensures done { IsTrue F.honest

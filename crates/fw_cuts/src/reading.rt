@@ -6,7 +6,7 @@ ghost use Rattle.fw_cuts.specs.Cuts.{Goes, Stays, LosesNoMore};
 use crate::files::{FilesFault, Part, StoreFiles};
 use fw_undo::MAX_PART_SIZE;
 
-/// How many bytes FILE has from a place on, where they are no more than a part of a write can have.
+/// How many bytes FILE has from a place on, if they are no more than a part of a write can have.
 pub(crate) fn size_from<F: StoreFiles>(files: &mut F, at: u64) -> Result<Option<usize>, FilesFault>
     ensures some { IsTrue F.honest
         → IfOk result (λ found. IfSome found (λ size. at + size ≡ length (F.seen files.old).held.store)) }

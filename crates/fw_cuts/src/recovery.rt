@@ -12,33 +12,13 @@ use crate::parts::write_both;
 use crate::reading::{read_both, size_from};
 use fw_undo::{HeaderWrite, JournalBytes, MAX_JOURNAL_SIZE, MAX_PART_SIZE};
 
-/// What an opening does first. It puts right what a power cut left of a header write, by the journal: where each sector of the header is the
-/// one of before or the one of after, and some of after are missing, those of before are put back. Then it writes all of FILE once more and
-/// syncs it, since a sync that failed since the system started may have lost some of it. Last it empties the journal and syncs that.
+/// What an opening does first. It puts right what a power cut left of a header write, by the journal: if each sector of the header is the
+/// one of before or the one of after, and some of after are missing, those of before are put back.
 ///
 /// # Errors
 ///
-/// `FilesFault` where the disk failed, or where FILE.journal has more bytes than a journal.
-pub fn settle<F: StoreFiles>(files: &mut F) -> Result<(), FilesFault>
-    ensures recovered { IsTrue F.honest → OnOk result
-        (IsRecovered (F.seen files.old).held.journal (F.seen files.old).held.store (F.seen files.new).held.store) }
-    ensures at_rest { IsTrue F.honest → OnOk result ((from to : ℕ) → IsAtRest from to (F.seen files.new)) }
-{
-    recover(files)?;
-    rest(files)
-}
-
-/// Writes all of FILE once more and syncs it, and empties the journal and syncs that.
-pub(crate) fn rest<F: StoreFiles>(files: &mut F) -> Result<(), FilesFault>
-    ensures store { IsTrue F.honest → OnOk result ((F.seen files.new).held.store ≡ (F.seen files.old).held.store) }
-    ensures at_rest { IsTrue F.honest → OnOk result ((from to : ℕ) → IsAtRest from to (F.seen files.new)) }
-{
-    write_again(files)?;
-    empty_journal(files)
-}
-
-/// Puts back what stood before a header write, if it was cut, by its journal.
-fn recover<F: StoreFiles>(files: &mut F) -> Result<(), FilesFault>
+/// `FilesFault` if the disk failed, or if FILE.journal has more bytes than a journal.
+pub fn recover<F: StoreFiles>(files: &mut F) -> Result<(), FilesFault>
     ensures { IsTrue F.honest → OnOk result
         (IsRecovered (F.seen files.old).held.journal (F.seen files.old).held.store (F.seen files.new).held.store) }
 {
@@ -48,6 +28,20 @@ fn recover<F: StoreFiles>(files: &mut F) -> Result<(), FilesFault>
         Some(write) => mend(files, &write),
         None => Ok(()),
     }
+}
+
+/// What an opening does next, and each header write that comes after one that failed. It writes all of FILE once more and syncs it, since a
+/// sync that failed since the system started may have lost some of it. Last it empties the journal and syncs that.
+///
+/// # Errors
+///
+/// `FilesFault` if the disk failed. FILE is as it was, and it is still to be done before the next header write.
+pub fn settle<F: StoreFiles>(files: &mut F) -> Result<(), FilesFault>
+    ensures store { IsTrue F.honest → OnOk result ((F.seen files.new).held.store ≡ (F.seen files.old).held.store) }
+    ensures at_rest { IsTrue F.honest → OnOk result ((from to : ℕ) → IsAtRest from to (F.seen files.new)) }
+{
+    write_again(files)?;
+    empty_journal(files)
 }
 
 /// Puts back the bytes of before where a write was cut.

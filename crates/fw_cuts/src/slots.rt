@@ -9,11 +9,11 @@ ghost use Rattle.fw_cuts.specs.declared.files.Part.TheVariants.{Store};
 use crate::files::{FilesFault, Part, StoreFiles};
 
 /// Writes bytes over those of FILE from `at` on. It isn't synced. Where they stand between the parts of the header the files stay at rest,
-/// also where it fails.
+/// also if it fails.
 ///
 /// # Errors
 ///
-/// `FilesFault` where the disk failed. Any sectors of the range may then have these bytes.
+/// `FilesFault` if the disk failed. Any sectors of the range may then have these bytes.
 pub fn write_slot<F: StoreFiles>(files: &mut F, at: u64, bytes: &[u8]) -> Result<(), FilesFault>
     requires { IsTrue F.honest → at + length bytes.now ≤ length (F.seen files.old).held.store }
     ensures done { IsTrue F.honest

@@ -191,7 +191,7 @@ others_whole : (version : HeaderVersion) (marks : List Bool) → length marks �
 others_whole One marks size = omega (arith, length-drop first_limit marks)
 others_whole Two marks size = omega (arith, length-drop first_limit marks)
 
--- where the bytes of marks stand in front, they are read as these marks
+-- if the bytes of marks stand in front, they are read as these marks
 pub marks_read : BitsPacked → (version : HeaderVersion) (marks : List Bool) (first others bytes : List ℕ) (n : ℕ) → length marks ≡ block_limit version
     → packed (take first_limit marks) ≡ first → packed (drop first_limit marks) ≡ others → take n bytes ≡ first ++ others
     → resized_marks (block_limit version) (bits bytes) ≡ marks

@@ -313,14 +313,14 @@ one_header law names marks_law a b fits fits' e =
 
 -- ---- what is read in the code
 
--- where the goal is there and bytes of a goal and its release are read as that goal, it is the header's
+-- if the goal is there and bytes of a goal and its release are read as that goal, it is the header's
 pub goal_read : (goal result : Option Goal) (byte : ℕ) (bytes : List ℕ) (release : ℕ) → IfSome goal GoalFieldsFit → byte ≡ flag (is_some goal) → byte ≡ 1
     → bytes ≡ goal_bytes goal → release ≡ goal_release goal
     → ((one : Goal) → GoalFieldsFit one → goal_bytes (Some one) ≡ bytes → one.name.release ≡ release → result ≡ Some one) → result ≡ goal
 goal_read None result byte bytes release fits present there e same read = absurd (suc-ne-zero 0 (sym there ∙ present))
 goal_read (Some one) result byte bytes release fits present there e same read = read one fits (sym e) (sym same)
 
--- where it is not there, there is none
+-- if it is not there, there is none
 pub no_goal_read : (goal : Option Goal) (byte : ℕ) → byte ≡ flag (is_some goal) → byte ≢ 1 → None ≡ goal
 no_goal_read None byte present other = refl
 no_goal_read (Some one) byte present other = absurd (other present)

@@ -208,7 +208,7 @@ stays_laid tail capacity old new slot at xs place fits here is (Err e) done torn
 
 -- ---- what is read after the slots
 
--- all that stands there, where something does
+-- all that stands there, if something does
 pub tail_read : (capacity : ℕ) (bytes : List ℕ) (at to : ℕ) → at ≡ old_store_size capacity → to ≡ length bytes → at < to
     → slice_range bytes at to ≡ tail_at capacity bytes
 tail_read capacity bytes at to here there some =

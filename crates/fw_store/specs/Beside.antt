@@ -23,7 +23,7 @@ IsBegunStore bytes = (length bytes ≤ 4) ⊎ ((capacity : ℕ) × BeginsStore c
 abbrev pub most_undo : ℕ
 most_undo = 8260
 
--- What a power cut leaves of an undo file: no more bytes than one has, and in front its mark, or zeros where its first sector is not
+-- What a power cut leaves of an undo file: no more bytes than one has, and in front its mark, or zeros if its first sector is not
 -- written yet, as far as they go.
 pub record IsUndoFile (bytes : List ℕ) : Type 0 where
   pub most : length bytes ≤ most_undo

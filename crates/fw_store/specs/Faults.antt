@@ -26,7 +26,7 @@ pub record HasCause {T : Type 0} (sound : Bool) (before after : ℕ) (result : R
   pub counted : after ≡ count_after (is_ok result) before
   pub never : IsTrue sound → IsOk result
 
--- What N calls make of a fuse, where it is known: none of them failed just if as many were left, and they are used up. Calls that end
+-- What N calls make of a fuse, if it is known: none of them failed just if as many were left, and they are used up. Calls that end
 -- with one that failed are counted as many as there would have been.
 pub record Spends (calls : ℕ) (old new : Option Fuse) (faultless : Bool) : Type 0 where
   pub told : (fuse : Fuse) → old ≡ Some fuse → IsTrue faultless ↔ (calls ≤ fuse.calls)

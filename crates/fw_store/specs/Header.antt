@@ -57,7 +57,7 @@ pub record IsGoal (limit capacity block_size release : ℕ) (goal : Goal) : Type
   pub limits : IsWithinLimits block_size goal.size
   pub most : block_count block_size goal.size ≤ limit
 
--- how many blocks the goal has, 0 where there is none
+-- how many blocks the goal has, 0 if there is none
 abbrev pub goal_count : ℕ → Option Goal → ℕ
 goal_count block_size None = 0
 goal_count block_size (Some goal) = block_count block_size goal.size
@@ -71,7 +71,7 @@ pub record IsHeader (capacity : ℕ) (h : Header) : Type 0 where
   pub running_size_fits : h.running_size ≤ capacity
   pub goal_by_status : is_some h.goal ≡ has_goal h.status
   pub goal : IfSome h.goal (IsGoal (block_limit h.version) capacity h.block_size h.running_name.release)
-  -- no number at or above the count is marked, and so none at all where there is no goal; in a header whose marks are torn one may be
+  -- no number at or above the count is marked, and so none at all if there is no goal; in a header whose marks are torn one may be
   pub unmarked : (i : ℕ) → goal_count h.block_size h.goal ≤ i → has h.marks i ≡ false
   -- a goal that was verified is there with all its blocks
   pub marked : IsTrue (is_verified h.status) → (i : ℕ) → i < goal_count h.block_size h.goal → has h.marks i ≡ true

@@ -8,11 +8,11 @@ pub record Known : Type 0 where
   pub honest : Bool
   -- no call of it fails
   pub sound : Bool
-  -- what it holds, where it is honest
+  -- what it holds, if it is honest
   pub device : Device
   -- the size of each slot in bytes
   pub capacity : ℕ
   -- how often it has failed, up to the greatest number
   pub faults : ℕ
-  -- how many of its calls succeed before all fail, and the byte that a failing write leaves, where that is known
+  -- how many of its calls succeed before all fail, and the byte that a failing write leaves, if that is known
   pub fuse : Option Fuse

@@ -39,19 +39,19 @@ status_number ActivationSuccessful = 6
 abbrev pub stored_name_bytes : Name → List ℕ
 stored_name_bytes name = 1 ∷ (campaign_bytes name.campaign ++ name.digest)
 
--- a goal: its size in four bytes, and its name in 41; zeros where there is none
+-- a goal: its size in four bytes, and its name in 41; zeros if there is none
 abbrev pub goal_bytes : Option Goal → List ℕ
 goal_bytes None = replicate 45 0
 goal_bytes (Some goal) = to_be_bytes w32 goal.size ++ stored_name_bytes goal.name
 
--- the release of a goal, 0 where there is none
+-- the release of a goal, 0 if there is none
 abbrev pub goal_release : Option Goal → ℕ
 goal_release None = 0
 goal_release (Some goal) = goal.name.release
 
--- the bytes of a header, 622 in version 1 and 2,158 in version 2: the form; whether transfer is enabled, the running slot, the status and whether there is a goal, a
--- byte each; the block size and the running size in four bytes each; the running name; the goal; a bit for each of the
--- first 4,096 blocks, number 0 first; the releases of the running name and of the goal, in four bytes each; and a bit for each other
+-- the bytes of a header, 622 in version 1 and 2,158 in version 2: the form; whether transfer is enabled, the running slot, the status and
+-- whether there is a goal, a byte each; the block size and the running size in four bytes each; the running name; the goal; a bit for each
+-- of the first 4,096 blocks, number 0 first; the releases of the running name and of the goal, in four bytes each; and a bit for each other
 -- block, of which version 1 has none
 unfoldable pub header_bytes : Header → List ℕ
 header_bytes h =

@@ -51,7 +51,7 @@ device_at capacity bytes = record {
   second = slice_range bytes (618 + capacity) (618 + capacity + capacity);
 }
 
--- bytes that hold a store: its own, or, where its releases are 0 and it has no other bytes of a header after them, those of one without
+-- bytes that hold a store: its own, or, if its releases are 0 and it has no other bytes of a header after them, those of one without
 abbrev pub HoldsStore : List ℕ → ℕ → Device → Type 0
 HoldsStore bytes capacity d = (bytes ≡ store_bytes capacity d) ⊎ ((bytes ≡ old_store_bytes capacity d) × (drop 614 d.head ≡ replicate 8 0))
 

@@ -135,11 +135,11 @@ fn check_takable<F: Folder, K: Kind>(folder: &mut F, name: Name, kind: &K) -> Re
     }
 }
 
-/// Begins FILE.new where nothing is FILE, and takes room in it for a whole store.
+/// Begins FILE.new if nothing is FILE, and takes room in it for a whole store.
 ///
 /// # Errors
 ///
-/// `Exists` where something is FILE, those of `begin`, and those of the system; what was begun is taken away then.
+/// `Exists` if something is FILE, those of `begin`, and those of the system; what was begun is taken away then.
 pub(crate) fn begin_store<F: Folder>(folder: &mut F, capacity: u32) -> Result<F::File, Reason>
     ensures absent { IsTrue (F.seen folder.old).honest → OnOk result ((F.seen folder.old).disk.entry Main ≡ absent) }
     ensures room { IsTrue (F.seen folder.old).honest

@@ -52,18 +52,18 @@ pub trait ByteDevice {
     ///
     /// # Errors
     ///
-    /// `DeviceFault` where the device failed.
+    /// `DeviceFault` if the device failed.
     fn len(&mut self) -> Result<u64, DeviceFault>
         ensures done { IsTrue (honest self.old) → IfOk result (λ n. n ≡ length (contents self.old)) }
         ensures same { IsTrue (honest self.old) → contents self.new ≡ contents self.old }
         ensures kept { KeepsDevice honest sound room self.old self.new }
         ensures never { IsTrue (sound self.old) → IsOk result };
 
-    /// Cuts the bytes to this length, or adds zeros up to it. A sound device does it just where it has room for `len` bytes.
+    /// Cuts the bytes to this length, or adds zeros up to it. A sound device does it just if it has room for `len` bytes.
     ///
     /// # Errors
     ///
-    /// `DeviceFault` where the device failed, or has no room. It may then have any bytes.
+    /// `DeviceFault` if the device failed, or has no room. It may then have any bytes.
     fn set_len(&mut self, len: u64) -> Result<(), DeviceFault>
         ensures done { IsTrue (honest self.old) → OnOk result (contents self.new ≡ resized (contents self.old) len) }
         ensures kept { KeepsDevice honest sound room self.old self.new }
@@ -74,7 +74,7 @@ pub trait ByteDevice {
     ///
     /// # Errors
     ///
-    /// `DeviceFault` where the device failed. `out` may then have any bytes.
+    /// `DeviceFault` if the device failed. `out` may then have any bytes.
     fn read_at(&mut self, at: u64, out: &mut [u8]) -> Result<(), DeviceFault>
         requires { IsTrue (honest self.old) → at + length out.old ≤ length (contents self.old) }
         ensures done { IsTrue (honest self.old)
@@ -87,7 +87,7 @@ pub trait ByteDevice {
     ///
     /// # Errors
     ///
-    /// `DeviceFault` where the device failed. Any bytes may then stand in their place.
+    /// `DeviceFault` if the device failed. Any bytes may then stand in their place.
     fn write_at(&mut self, at: u64, bytes: &[u8]) -> Result<(), DeviceFault>
         requires { IsTrue (honest self.old) → at + length bytes.now ≤ length (contents self.old) }
         ensures done { IsTrue (honest self.old)
@@ -101,7 +101,7 @@ pub trait ByteDevice {
     ///
     /// # Errors
     ///
-    /// `DeviceFault` where the device failed. The old bytes then stand.
+    /// `DeviceFault` if the device failed. The old bytes then stand.
     fn replace_at(&mut self, at: u64, bytes: &[u8]) -> Result<(), DeviceFault>
         requires { IsTrue (honest self.old) → at + length bytes.now ≤ length (contents self.old) }
         ensures done { IsTrue (honest self.old)
@@ -115,7 +115,7 @@ pub trait ByteDevice {
     ///
     /// # Errors
     ///
-    /// `DeviceFault` where the device failed, or has no room for these bytes. The old bytes then stand.
+    /// `DeviceFault` if the device failed, or has no room for these bytes. The old bytes then stand.
     fn replace_both(
         &mut self,
         at: u64,

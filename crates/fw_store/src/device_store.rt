@@ -104,7 +104,7 @@ impl<D: ByteDevice + Drop> DeviceStore<D> {
     ///
     /// # Errors
     ///
-    /// `BadSetup` where one of these doesn't hold, and the device is as it was. Otherwise `StoreFault` alone, where the
+    /// `BadSetup` if one of these doesn't hold, and the device is as it was. Otherwise `StoreFault` alone, if the
     /// device failed, or has no room for the store. It may then have any bytes.
     pub fn create_on(
         mut device: D,
@@ -164,7 +164,7 @@ impl<D: ByteDevice + Drop> DeviceStore<D> {
     ///
     /// # Errors
     ///
-    /// `StoreFault` where the device failed, and `BadFile` where its bytes don't begin with a capacity of 1 to 16,777,216,
+    /// `StoreFault` if the device failed, and `BadFile` if its bytes don't begin with a capacity of 1 to 16,777,216,
     /// or aren't as many as those of a store of that capacity.
     pub fn reopen_on(mut device: D) -> Result<DeviceStore<D>, FileStoreError>
         ensures store { IsTrue (D.honest device)
@@ -178,7 +178,7 @@ impl<D: ByteDevice + Drop> DeviceStore<D> {
             ≡ has_room (D.room device) (⟦<DeviceStore<D> as ImageStore>⟧.known store).capacity) }
         ensures faultless { IfOk result (λ store. (⟦<DeviceStore<D> as ImageStore>⟧.known store).faults ≡ 0) }
 
-        // It is refused exactly where these bytes are no store, or where the device failed.
+        // It is refused exactly if these bytes are no store, or if the device failed.
         ensures bad_file { IsErrOf result FileStoreError.BadFile
             → IsTrue (D.honest device) → (capacity : ℕ) → ¬ IsStore (D.contents device) capacity }
         ensures refusals { IfErr result IsReopenRefusal }

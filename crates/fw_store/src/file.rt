@@ -29,7 +29,9 @@ use crate::setup::{fresh_bytes, is_setup};
 use crate::store::ImageStore;
 use crate::tail::store_size;
 use crate::version::{HeaderBytes, HeaderVersion};
-use fw_cuts::{FilesFault, Part, Scratch, StoreFiles, replace, settle, take_back, write_slot};
+use fw_cuts::{
+    FilesFault, Part, Scratch, StoreFiles, recover, replace, settle, take_back, write_slot,
+};
 use fw_disk::{
     Because, Cause, Folder, Name, Reason, SystemFolder, abandon, begin, finish, open,
     open_companion,
@@ -43,9 +45,18 @@ use std::rt::Files;
 #[derive(Drop)]
 pub struct FileDevice {
     files: OpenFiles,
-    /// Whether a header write failed, so that the file may have a part of it, or a sync may have lost some of its bytes.
-    torn: bool,
+    due: Due,
     scratch: Scratch,
+}
+
+/// What is to be done before the next header write.
+#[derive(Clone, Copy)]
+enum Due {
+    Nothing,
+    /// The opening couldn't write all of FILE again, so an earlier sync may have lost some of what is read.
+    Settling,
+    /// A header write failed, so FILE may have a part of it, or a sync may have lost some of its bytes.
+    TakingBack,
 }
 
 /// A store in a file.
@@ -71,7 +82,7 @@ impl FileDevice {
         }
     }
 
-    /// Begins a store under the name FILE.new where nothing is FILE, with room for all of it, and its journal, which is empty.
+    /// Begins a store under the name FILE.new if nothing is FILE, with room for all of it, and its journal, which is empty.
     fn begin<R: Files<File = File>>(
         folder: &mut SystemFolder<'_, R>,
         capacity: u32,
@@ -114,8 +125,8 @@ impl FileDevice {
     }
 
     /// Opens a file that is there, if it is a store. A store that has no journal gets an empty one. What a power cut left of a header
-    /// write is put right by the journal, and what a failed sync may have lost is written again. The names of both are where a power cut
-    /// leaves them.
+    /// write is put right by the journal, and what a failed sync may have lost is written again; if the disk takes no write now, that is due
+    /// before the next header write. The names of both are where a power cut leaves them.
     fn open<R: Files<File = File>>(
         folder: &mut SystemFolder<'_, R>,
     ) -> Result<Option<FileDevice>, FileFault> {
@@ -129,7 +140,10 @@ impl FileDevice {
             None => new_journal(folder)?,
         };
         let mut device = FileDevice::of(store, journal);
-        settle(&mut device.files)?;
+        recover(&mut device.files)?;
+        if settle(&mut device.files).is_err() {
+            device.due = Due::Settling;
+        }
         Ok(Some(device))
     }
 
@@ -137,17 +151,15 @@ impl FileDevice {
     fn of(store: OpenFile, journal: OpenFile) -> FileDevice {
         FileDevice {
             files: OpenFiles::of(store, journal),
-            torn: false,
+            due: Due::Nothing,
             scratch: Scratch::new(),
         }
     }
 
-    /// Takes back a header write that failed.
+    /// Takes back a header write that failed, if one did, and writes all of FILE again.
     fn mend(&mut self) -> Result<(), DeviceFault> {
-        if self.torn {
-            take_back(&mut self.files, &mut self.scratch)?;
-            self.torn = false;
-        }
+        take_back(&mut self.files, &mut self.scratch)?;
+        self.due = Due::Nothing;
         Ok(())
     }
 }
@@ -374,7 +386,9 @@ impl ByteDevice for FileDevice {
     }
 
     fn read_at(&mut self, at: u64, out: &mut [u8]) -> Result<(), DeviceFault> {
-        self.mend()?;
+        if let Due::TakingBack = self.due {
+            self.mend()?;
+        }
         Ok(self.files.read_at(Part::Store, at, out)?)
     }
 
@@ -398,9 +412,14 @@ impl ByteDevice for FileDevice {
         last_at: u64,
         last: &[u8],
     ) -> Result<(), DeviceFault> {
-        self.mend()?;
+        match self.due {
+            Due::Nothing => (),
+            Due::Settling | Due::TakingBack => self.mend()?,
+        }
         let replaced = replace(&mut self.files, &mut self.scratch, at, bytes, last_at, last);
-        self.torn = replaced.is_err();
+        if replaced.is_err() {
+            self.due = Due::TakingBack;
+        }
         Ok(replaced?)
     }
 }

@@ -232,7 +232,7 @@ impl Header {
         ensures size { length (bytes_of result) ≡ header_size self.now.version }
         ensures fields { FieldsFit (with_all_marks self.now) }
 
-        // Where the header's marks count all these numbers, it is the header itself.
+        // If the header's marks count all these numbers, it is the header itself.
         ensures whole { length self.now.marks ≡ block_limit self.now.version → with_all_marks self.now ≡ self.now }
     {
         let mut bytes = HeaderBytes::zeros(self.version);
@@ -271,8 +271,8 @@ impl Header {
         put(bytes, at, &goal_release(self.goal).to_be_bytes());
     }
 
-    /// The header that has these bytes, and `None` where there is none that a store with this capacity, in bytes a
-    /// slot, can have: so there is none where the form is that of the other version.
+    /// The header that has these bytes, and `None` if there is none that a store with this capacity, in bytes a
+    /// slot, can have: so there is none if the form is that of the other version.
     pub fn from_bytes(capacity: u32, bytes: &HeaderBytes) -> Option<Header>
         ensures some { IfSome result (λ header.
             IsHeader capacity header × (header_bytes header ≡ bytes_of bytes.now)) }
@@ -326,7 +326,7 @@ fn goal_fits(goal: &Option<Goal>, limit: u32, capacity: u32, block_size: u32, re
     }
 }
 
-/// How many blocks the goal has, 0 where there is none.
+/// How many blocks the goal has, 0 if there is none.
 fn goal_count(goal: Option<Goal>, block_size: u32) -> u32
     requires { 1 ≤ block_size }
     ensures { result ≡ goal_count block_size goal }
@@ -371,14 +371,14 @@ fn stored_name(name: ImageName) -> NameBytes
     name.without_release().to_bytes()
 }
 
-/// The release of a goal, 0 where there is none.
+/// The release of a goal, 0 if there is none.
 fn goal_release(goal: Option<Goal>) -> u32
     ensures { result ≡ goal_release goal }
 {
     goal.map_or(0, |goal| goal.name.release)
 }
 
-/// The bytes of a goal, zeros where there is none.
+/// The bytes of a goal, zeros if there is none.
 fn goal_to_bytes(goal: Option<Goal>) -> [u8; GOAL_SIZE]
     ensures value { result ≡ goal_bytes goal }
     ensures fields { IfSome goal GoalFieldsFit }

@@ -14,7 +14,7 @@ use crate::store::ImageStore;
 use crate::version::{HeaderBytes, HeaderVersion};
 use std::alloc::{AllocError, Global};
 
-/// A store in memory. It fails only where a fuse makes it fail, and takes memory only when it is made.
+/// A store in memory. It fails only if a fuse makes it fail, and takes memory only when it is made.
 pub struct MemoryStore {
     capacity: u32,
     /// In a box, so that the store moves in few words.
@@ -27,7 +27,7 @@ pub struct MemoryStore {
     ghost second_size: { length second.items ≡ capacity },
 }
 
-// Written out: where a store is let go, that is one call, and none of its parts is looked into.
+// Written out, so that letting go of it is one call in a proof. A derived `Drop` is unfolded there field by field, which takes minutes.
 impl Drop for MemoryStore {
     fn drop(self) {
         let MemoryStore {
@@ -53,7 +53,7 @@ impl MemoryStore {
     ///
     /// # Errors
     ///
-    /// `BadSetup` where one of these doesn't hold, and otherwise `OutOfMemory` alone.
+    /// `BadSetup` if one of these doesn't hold, and otherwise `OutOfMemory` alone.
     pub fn new(
         alloc: Global,
         capacity: u32,
@@ -76,7 +76,7 @@ impl MemoryStore {
     ///
     /// # Errors
     ///
-    /// `BadSetup` where one of these doesn't hold, and otherwise `OutOfMemory` alone.
+    /// `BadSetup` if one of these doesn't hold, and otherwise `OutOfMemory` alone.
     pub fn new_old(
         alloc: Global,
         capacity: u32,

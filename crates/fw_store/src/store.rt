@@ -36,7 +36,7 @@ pub trait ImageStore {
     ///
     /// # Errors
     ///
-    /// `StoreFault` where the device failed.
+    /// `StoreFault` if the device failed.
     fn header(&mut self) -> Result<HeaderBytes, StoreFault>
         ensures done { IsTrue (known self.old).honest → IfOk result (λ bytes. bytes_of bytes ≡ (known self.old).device.head) }
         ensures same { IsTrue (known self.old).honest → (known self.new).device ≡ (known self.old).device }
@@ -48,7 +48,7 @@ pub trait ImageStore {
     ///
     /// # Errors
     ///
-    /// `StoreFault` where the device failed. The old header then stands.
+    /// `StoreFault` if the device failed. The old header then stands.
     fn write_header(&mut self, bytes: &HeaderBytes) -> Result<(), StoreFault>
         ensures done { IsTrue (known self.old).honest
             → OnOk result ((known self.new).device ≡ with_head (known self.old).device (bytes_of bytes.now)) }
@@ -61,7 +61,7 @@ pub trait ImageStore {
     ///
     /// # Errors
     ///
-    /// `StoreFault` where the device failed. `out` may then have any bytes.
+    /// `StoreFault` if the device failed. `out` may then have any bytes.
     fn read(&mut self, slot: Slot, at: u32, out: &mut [u8]) -> Result<(), StoreFault>
         requires { at + length out.old ≤ (known self.old).capacity }
         ensures done { IsTrue (known self.old).honest
@@ -75,7 +75,7 @@ pub trait ImageStore {
     ///
     /// # Errors
     ///
-    /// `StoreFault` where the device failed. Any bytes may then stand in their place; those of a store with a fuse are the first half
+    /// `StoreFault` if the device failed. Any bytes may then stand in their place; those of a store with a fuse are the first half
     /// of the bytes, rounded down, and the fuse's byte in the rest.
     fn write(&mut self, slot: Slot, at: u32, bytes: &[u8]) -> Result<(), StoreFault>
         requires { at + length bytes.now ≤ (known self.old).capacity }

@@ -1,7 +1,9 @@
 //! Header writes, openings and writes into a slot.
 
 use crate::failing::FailingFiles;
-use fw_cuts::{FilesFault, Part, Scratch, StoreFiles, replace, settle, take_back, write_slot};
+use fw_cuts::{
+    FilesFault, Part, Scratch, StoreFiles, recover, replace, settle, take_back, write_slot,
+};
 use fw_ramfiles::MemoryFiles;
 use std::alloc::Global;
 use std::test::Fail;
@@ -42,7 +44,7 @@ fn write(files: &mut MemoryFiles, bytes: &[u8], last: &[u8]) -> Result<(), Files
     replace(files, &mut Scratch::new(), 511, bytes, 513, last)
 }
 
-/// The journal is that of the write, or empty where one sector changes. FILE gets longer and shorter.
+/// The journal is that of the write, or empty if one sector changes. FILE gets longer and shorter.
 #[test]
 fn a_header_is_written(rt: HostRuntime) -> Result<(), Fail> {
     let alloc = rt.alloc();
@@ -85,9 +87,11 @@ fn a_write_that_failed_is_taken_back(rt: HostRuntime) -> Result<(), Fail> {
 fn an_opening_takes_a_cut_back(rt: HostRuntime) -> Result<(), Fail> {
     let alloc = rt.alloc();
     let mut torn = files_of(alloc, b"cb", JOURNAL)?;
+    recover(&mut torn.0)?;
     settle(&mut torn.0)?;
     holds(alloc, 0, &torn.0, "6162", "")?;
     let mut whole = files_of(alloc, b"cde", JOURNAL)?;
+    recover(&mut whole.0)?;
     settle(&mut whole.0)?;
     holds(alloc, 1, &whole.0, "636465", "")
 }
