@@ -44,7 +44,7 @@ made_after [] events made e = e
 made_after (first ∷ given) [] made e = absurd cc
 made_after (first ∷ given) (event ∷ events) made e = made_after given events made cc
 
--- where the receipts are those of the record, they are those for what comes after the given events
+-- if the receipts are those of the record, they are those for what comes after the given events
 pub each_once : (given events : List Given) (receipts : List (List Receipt)) → AreNumbered (events_of given) (events_of events) receipts
     → IsPermutation (all_of receipts) (numbered (length given) (events_of (take (length events - length given) (drop (length given) events))))
 each_once given events receipts are =

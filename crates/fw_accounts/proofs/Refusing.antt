@@ -26,7 +26,7 @@ audit_refuses setup given rounds workers heads meters sent entries board receipt
 audit_refuses setup given rounds workers heads meters sent entries board receipts audit.Mismatch bad other is = inr (inr (inr (inl (other refl).1)))
 audit_refuses setup given rounds workers heads meters sent entries board receipts audit.OutOfMemory bad other is = absurd cc
 
--- an audit is out of memory only where a world can be made
+-- an audit is out of memory only if a world can be made
 pub audit_wants : (setup : Setup) (refusal : AuditError) → (refusal ≡ audit.OutOfMemory → IsSetup setup) → of_audit refusal ≡ refused.OutOfMemory → IsSetup setup
 audit_wants setup audit.BadSetup memory is = absurd cc
 audit_wants setup audit.Mismatch memory is = absurd cc

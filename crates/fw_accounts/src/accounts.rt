@@ -72,7 +72,7 @@ pub struct LeftByWorkers {
 ///
 /// # Errors
 ///
-/// `Mismatch` where anything differs, and only there. Otherwise `OutOfMemory` alone, and only where there are receipts of each worker,
+/// `Mismatch` if anything differs, and only there. Otherwise `OutOfMemory` alone, and only if there are receipts of each worker,
 /// whose numbers rise, and there is anything to copy or a world to make.
 pub fn account(
     alloc: Global,
@@ -133,7 +133,7 @@ fn record_of(alloc: Global, given: &[Event], entries: Vec<Entry>) -> Result<Vec<
     Ok(events)
 }
 
-/// Copies of these events. It takes memory only where there is one.
+/// Copies of these events. It takes memory only if there is one.
 pub(crate) fn copied(alloc: Global, events: &[Event]) -> Result<Vec<Event>, AllocError>
     ensures copies { IfOk result (λ v. events_of v.items ≡ events_of events.now) }
     ensures memory { OnErr result (1 ≤ length events.now) }
@@ -309,7 +309,7 @@ fn is_count(board: u64, setup: &Setup, world: &World) -> bool
     }
 }
 
-/// How many rows of all head ends are done, and `None` where they are more than 2^64 - 1.
+/// How many rows of all head ends are done, and `None` if they are more than 2^64 - 1.
 pub fn done_rows(setup: &Setup, world: &World) -> Option<u64>
     ensures { SomeIff result (done_rows setup.now world.now < 2 ^ 64) (done_rows setup.now world.now) }
 {

@@ -14,7 +14,7 @@ use std::alloc::{AllocError, Global};
 ///
 /// # Errors
 ///
-/// Out of memory, and only where there is an event or a receipt.
+/// Out of memory, and only if there is an event or a receipt.
 pub fn recorded_events(
     alloc: Global,
     given: &[Event],

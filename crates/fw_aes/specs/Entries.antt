@@ -2,7 +2,7 @@
 use Rattle.std.specs.Prelude.{ℕ, ◌/◌, Bool, List, bit_and, bit_xor, slice_index, nat_lt, nat_le, ◌||◌, if◌then◌else◌, T}
 use Rattle.std.specs.Simd.Lanes.{Each1}
 
--- a place in a table, or one where none has an entry
+-- a place in a table, or one if none has an entry
 abbrev pub is_place : ℕ → Bool
 is_place j = nat_le 128 j || nat_lt j 16
 

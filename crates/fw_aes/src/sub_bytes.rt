@@ -2,7 +2,7 @@
 //!
 //! GF(2^8) is seen as the plane over GF(2^4) with the basis u and u^16, where u = x, and a is (u + u^16)^2 / u^17. A byte is
 //! i u + j u^16, and k = i + j. With r = 1 / (1/i + a/k) + j and s = 1 / (1/j + a/k) + i, the inverse of the byte is a sum of multiples
-//! of 1/r and of 1/s. 1/0 is 128, where no table has an entry, which counts as 0.
+//! of 1/r and of 1/s. 1/0 is 128, if no table has an entry, which counts as 0.
 
 ghost use Rattle.std.specs.Prelude.{◌≡◌};
 ghost use Rattle.fw_aes.specs.Aes.{sub_bytes};

@@ -22,7 +22,7 @@ use Rattle.fw_air.proofs.Runs.{follows_on}
 
 -- ---- one by one
 
--- where these are left, whatever they lead to is what all of them lead to
+-- if these are left, whatever they lead to is what all of them lead to
 abbrev pub LeadsAll : List Fate → List Queue → State → List Queue → State → List Event → List Queue → Type 0
 LeadsAll fates all old left now so_far done =
     (events : List Event) (nexts : List Queue) (new : State) → RoundHasFates fates left now events nexts new → RoundHasFates fates all old (so_far ++ events) (done ++ nexts) new

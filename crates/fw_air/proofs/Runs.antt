@@ -42,7 +42,7 @@ goes_on a b c xs f g = (xs ++ g.0, follows_on a b c xs g.0 f g.1)
 
 -- ---- one by one
 
--- where these are left, whatever they lead to is what all of them lead to
+-- if these are left, whatever they lead to is what all of them lead to
 abbrev pub Leads : {A : Type 0} → (A → State → List Event → State → Type 0) → List A → State → List A → State → List Event → Type 0
 Leads Does all old left now so_far = (events : List Event) (new : State) → OneByOne Does left now events new → OneByOne Does all old (so_far ++ events) new
 

@@ -25,7 +25,7 @@ pub record Appended : Type 0 where
 abbrev pub IsCounted : Log → Type 0
 IsCounted log = sum_by (λ e. e.count) log.entries ≡ length log.sent
 
--- A copy of the datagram that is wanted, or nothing where there is none. Only a copy takes memory.
+-- A copy of the datagram that is wanted, or nothing if there is none. Only a copy takes memory.
 abbrev pub IsCopy : {E : Type 0} → Result (Option Datagram) E → Option Datagram → Type 0
 IsCopy result wanted = MatchResult result (λ found. found ≡ wanted) (λ _. IsSome wanted)
 

@@ -49,7 +49,7 @@ impl fmt::Display for AuditError {
 ///
 /// # Errors
 ///
-/// `BadSetup` where no world can be made with the setup. `Mismatch` where the run is refused an event for another cause than memory,
+/// `BadSetup` if no world can be made with the setup. `Mismatch` if the run is refused an event for another cause than memory,
 /// or leads to other parts. Otherwise `OutOfMemory` alone, which is returned where the run was out of memory.
 pub fn audit(
     alloc: Global,

@@ -17,7 +17,7 @@ pub fn one_world()
     fw_meter::laws::one_stop();
 }
 
-/// `run` over a schedule is refused at no event, except where it is out of memory.
+/// `run` over a schedule is refused at no event, except if it is out of memory.
 pub fn none_refused()
     ensures { NoneRefused }
 {

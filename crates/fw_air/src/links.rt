@@ -55,7 +55,7 @@ impl LinkQueue {
     ///
     /// # Errors
     ///
-    /// Out of memory alone, and only where a datagram comes or is late. Some of the datagrams are then late, and the others are lost.
+    /// Out of memory alone, and only if a datagram comes or is late. Some of the datagrams are then late, and the others are lost.
     pub fn pass(
         &mut self,
         alloc: Global,
@@ -101,12 +101,12 @@ impl LinkQueue {
 }
 
 /// The links of a world: by head ends, and then by meters, in the order of the setup. A link is a head end and a meter that stands in
-/// its book, also where its rows have all ended. Nothing was sent on them, and nothing waits. Each end of a link is looked for as
+/// its book, also if its rows have all ended. Nothing was sent on them, and nothing waits. Each end of a link is looked for as
 /// `World::book` and `World::meter` do.
 ///
 /// # Errors
 ///
-/// Out of memory alone, and only where there is a link.
+/// Out of memory alone, and only if there is a link.
 pub fn links_of(alloc: Global, setup: &Setup, world: &World) -> Result<Vec<LinkQueue>, AllocError>
     ensures all { IfOk result (λ made. map link_of made.items ≡ links setup.now world.now) }
     ensures there { IfOk result (λ made. All (IsThere world.now) made.items) }

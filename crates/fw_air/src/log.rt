@@ -149,7 +149,7 @@ pub struct Log {
     datagrams: usize,
 }
 
-// Written out: where a log is let go, that is one call, and none of its parts is looked into.
+// Written out, so that letting go of it is one call in a proof. A derived `Drop` is unfolded there field by field, which takes minutes.
 impl Drop for Log {
     fn drop(self) {
         let Log {
@@ -225,11 +225,11 @@ impl Log {
         added
     }
 
-    /// A copy of the datagram of a number, and `None` where there is none.
+    /// A copy of the datagram of a number, and `None` if there is none.
     ///
     /// # Errors
     ///
-    /// Out of memory alone, and only where there is one.
+    /// Out of memory alone, and only if there is one.
     pub fn get(&self, alloc: Global, number: usize) -> Result<Option<Datagram>, AllocError>
         // No memory has room for more.
         ensures { length self.now.sent < 2 ^ 64 - 1 → IsCopy result (slice_get self.now.sent number) }
@@ -241,7 +241,7 @@ impl Log {
         find(alloc, &self.newer.chain, self.datagrams, number)
     }
 
-    /// The greatest number of a datagram with these bytes that this sender sent to this addressee, and `None` where there is none.
+    /// The greatest number of a datagram with these bytes that this sender sent to this addressee, and `None` if there is none.
     /// It takes no memory.
     pub fn find(&self, from: Actor, to: Actor, bytes: &[u8]) -> Option<u64>
         // No memory has room for more.
@@ -258,7 +258,7 @@ impl Log {
     ///
     /// # Errors
     ///
-    /// Out of memory alone, and only where there is an event. The log is then lost.
+    /// Out of memory alone, and only if there is an event. The log is then lost.
     pub fn into_inner(self, alloc: Global) -> Result<(Vec<Datagram>, Vec<Entry>), AllocError>
         ensures memory { OnErr result (1 ≤ length self.entries) }
         ensures lists { IfOk result (λ lists. (lists.0.items ≡ self.sent) × (lists.1.items ≡ self.entries)) }

@@ -45,7 +45,7 @@ pub(crate) struct Record {
     events: Vec<Event>,
 }
 
-// Written out: where a record is let go, that is one call, and none of its parts is looked into.
+// Written out, so that letting go of it is one call in a proof. A derived `Drop` is unfolded there field by field, which takes minutes.
 impl Drop for Record {
     fn drop(self) {
         let Record {
@@ -112,7 +112,7 @@ impl Record {
         }
     }
 
-    /// An event that is refused only where it is out of memory.
+    /// An event that is refused only if it is out of memory.
     fn admit(&mut self, alloc: Global, event: Event) -> Result<(), StepError>
         requires { refusal_of self.old.world (event_of event) ≡ None }
         ensures made { OnOk result (Follows self.old (event_of event ∷ []) self.new) }

@@ -28,7 +28,7 @@ pub trait LinkSteps {
     /// The meter took a turn, if it verified.
     ghost turned: { Self → Self.Link → Self → Type 0 } = { λ _ _ _. Unit {0} };
 
-    /// What becomes of it, also where a step is refused.
+    /// What becomes of it, also if a step is refused.
     ghost goes_on: { Self → Self → Type 0 };
 
     /// What a step is refused for.

@@ -17,7 +17,7 @@ use std::alloc::Global;
 
 /// The given events, and after them those of `rounds` rounds of each link: round follows round, and in each the links go by head
 /// ends and then by meters, in the order of the setup. A link is a head end and a meter that stands in its book after the given
-/// events, also where its rows have all ended. `run` over the list is refused at no event, except where it is out of memory, and
+/// events, also if its rows have all ended. `run` over the list is refused at no event, except if it is out of memory, and
 /// ends in the world of these rounds: `laws::none_refused` and `laws::one_world` say so. After the given events each link has as
 /// many ticks as there are rounds, and any other two numbers have none: `laws::ticks_each`. In a round of a link each datagram that
 /// is sent has the next of the fates, in the order of sending.

@@ -66,7 +66,7 @@ impl SharedLog {
         }
     }
 
-    /// A copy of the datagram of a number, and `None` where there is none yet.
+    /// A copy of the datagram of a number, and `None` if there is none yet.
     ///
     /// # Errors
     ///
@@ -80,7 +80,7 @@ impl SharedLog {
         self.log.lock(rt).get(alloc, number)
     }
 
-    /// The greatest number of a datagram with these bytes that this sender sent to this addressee, and `None` where there is none
+    /// The greatest number of a datagram with these bytes that this sender sent to this addressee, and `None` if there is none
     /// yet. It takes no memory.
     pub fn find<R: Wait>(&self, rt: &R, from: Actor, to: Actor, bytes: &[u8]) -> Option<u64> {
         self.log.lock(rt).find(from, to, bytes)
@@ -118,7 +118,7 @@ impl SharedLog {
     ///
     /// # Errors
     ///
-    /// Out of memory alone, and only where there is an event. The log is then lost.
+    /// Out of memory alone, and only if there is an event. The log is then lost.
     pub fn into_inner(self, alloc: Global) -> Result<(Vec<Datagram>, Vec<Entry>), AllocError>
         ensures { IfOk result (λ lists. IsCounted (record { sent = lists.0.items; entries = lists.1.items })) }
     {

@@ -104,7 +104,7 @@ impl UdpWire {
         }
     }
 
-    /// Receives the next datagram that comes in time. Where none does, those under way are lost, or late.
+    /// Receives the next datagram that comes in time. If none does, those under way are lost, or late.
     fn wait(&mut self, buffer: &mut [u8]) -> Result<Option<usize>, WireFault>
         ensures { IfOk result (λ came. IfSome came (λ count. count ≤ length buffer.new)) }
     {

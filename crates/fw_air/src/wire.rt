@@ -24,7 +24,7 @@ impl fmt::Display for WireFault {
 
 /// One end of a wire between a head end and a meter. What is sent at one end may come at the other, once, more often or never.
 pub trait Wire {
-    /// Sends a datagram, and returns how many of its bytes were taken. Where these are fewer than given, it is lost.
+    /// Sends a datagram, and returns how many of its bytes were taken. If these are fewer than given, it is lost.
     fn send(&mut self, bytes: &[u8]) -> Result<usize, WireFault>;
 
     /// Receives the next datagram into the buffer, and returns how many bytes of it stand there now. `None` says that nothing came in

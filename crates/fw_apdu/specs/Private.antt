@@ -47,7 +47,7 @@ abbrev pub IsParameter : List ℕ → Option Value → Type 0
 IsParameter s None = s ≡ 0x00 ∷ []
 IsParameter s (Some v) = (present : ℕ) × (body : List ℕ) × (s ≡ present ∷ body) × (present ≢ 0) × IsData max_depth body v
 
--- ---- where memory may be taken
+-- ---- if memory may be taken
 
 -- for a parameter, which stands after any byte except 00
 abbrev pub ParameterTakes : List ℕ → Type 0

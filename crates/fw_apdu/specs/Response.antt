@@ -31,7 +31,7 @@ SpellsResponse s invoke (action_response c None) = s ≡ 0xc7 ∷ 0x01 ∷ invok
 SpellsResponse s invoke (action_response c (Some r)) =
     (present : ℕ) × (body : List ℕ) × (s ≡ 0xc7 ∷ 0x01 ∷ invoke ∷ c ∷ present ∷ body) × (present ≢ 0) × SpellsResult body r
 
--- where a response holds a Data: in the result of a GET, and in that of an ACTION where any byte except 00 says that there is one
+-- where a response holds a Data: in the result of a GET, and in that of an ACTION if any byte except 00 says that there is one
 abbrev pub ReturnsDataAt : List ℕ → List ℕ → Type 0
 ReturnsDataAt s body =
     (invoke : ℕ)

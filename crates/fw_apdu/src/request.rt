@@ -148,7 +148,7 @@ struct Head {
 pub fn read_request(alloc: Global, apdu: &[u8]) -> Result<Request, ApduError>
     ensures found { IfOk result
         (λ r. SpellsRequest apdu.now (request_invoke r) (request_content r)) }
-    // A fault is the leftmost one, and comes only where the bytes spell no request.
+    // A fault is the leftmost one, and comes only if the bytes spell no request.
     ensures none { IfErr result (λ e. IfFault e (NoRequest apdu.now)) }
     ensures fault { IfErr result (λ e. IfFault e (RequestFails apdu.now e)) }
     // Memory is taken only for a Data, and there only for strings and elements that are there.
@@ -299,7 +299,7 @@ fn parameter_at(alloc: Global, bytes: &[u8]) -> Result<Option<Data>, ApduError>
 ///
 /// # Errors
 ///
-/// `BadData` where a value in it has no spelling, and otherwise `OutOfMemory` alone.
+/// `BadData` if a value in it has no spelling, and otherwise `OutOfMemory` alone.
 pub fn write_request(alloc: Global, request: &Request) -> Result<Vec<u8>, ApduError>
     ensures written { IfOk result (λ apdu. apdu.items
         ≡ request_bytes (request_invoke request.now) (request_content request.now)) }

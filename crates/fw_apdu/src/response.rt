@@ -92,7 +92,7 @@ const PRESENT: u8 = 0x01;
 pub fn read_response(alloc: Global, apdu: &[u8]) -> Result<Response, ApduError>
     ensures found { IfOk result
         (λ r. SpellsResponse apdu.now (response_invoke r) (response_content r)) }
-    // A fault is the leftmost one, and comes only where the bytes spell no response.
+    // A fault is the leftmost one, and comes only if the bytes spell no response.
     ensures none { IfErr result (λ e. IfFault e (NoResponse apdu.now)) }
     ensures fault { IfErr result (λ e. IfFault e (ResponseFails apdu.now e)) }
     // Memory is taken only for a Data, and there only for strings and elements that are there.
@@ -227,7 +227,7 @@ fn result_at(alloc: Global, bytes: &[u8]) -> Result<GetDataResult, ApduError>
 ///
 /// # Errors
 ///
-/// `BadData` where a value in it has no spelling, and otherwise `OutOfMemory` alone.
+/// `BadData` if a value in it has no spelling, and otherwise `OutOfMemory` alone.
 pub fn write_response(alloc: Global, response: &Response) -> Result<Vec<u8>, ApduError>
     ensures written { IfOk result (λ apdu. apdu.items
         ≡ response_bytes (response_invoke response.now) (response_content response.now)) }

@@ -150,7 +150,7 @@ last_apart bytes some =
     let past : drop (suc i) bytes ≡ [] = nil_from_length (drop (suc i) bytes) (omega (arith, length-drop (suc i) bytes)) in
     sym (take-append-drop i bytes) ∙ ap (λ (x : List ℕ). take i bytes ++ x) (drop-cons bytes i 0 lt ∙ ap (λ (x : List ℕ). get_or bytes i 0 ∷ x) past)
 
--- where bytes are as many as n bits ask for, and the last is cut or whole
+-- if bytes are as many as n bits ask for, and the last is cut or whole
 pub keeps_cut : (bytes : List ℕ) (n : ℕ) → IsBytes bytes → length bytes ≡ bytes_for n → n % 8 ≢ 0
     → Keeps n bytes (set bytes (length bytes - 1) (get_or bytes (length bytes - 1) 0 - get_or bytes (length bytes - 1) 0 % 2 ^ (8 - n % 8)))
 keeps_cut bytes n fits len ne =

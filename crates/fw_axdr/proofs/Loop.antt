@@ -92,7 +92,7 @@ data_at_tagged (suc n) t c deep =
     let e : suc n - 1 ≡ n = omega arith in
     rw e refl
 
--- where a byte was read, or none was there
+-- if a byte was read, or none was there
 pub front_byte : (s : List ℕ) (t : ℕ) (c : List ℕ) → reader.number_at 1 s ≡ Ok (t, c) → s ≡ t ∷ c
 unfolding reader.number_at
 front_byte [] t c h = absurd cc

@@ -65,7 +65,7 @@ number_again bytes rest size n len is =
     let room : ltb (length (bytes ++ rest)) size ≡ false = le-ltb _ _ (omega (arith, length-append bytes rest)) in
     rw (room, take_at bytes rest size len, drop_at bytes rest size len, is) refl
 
--- the same, where nothing follows the step
+-- the same, if nothing follows the step
 bind_both_last : {A : Type 0} (r : Result A AxdrError) (P : A → Type 0) (Q : AxdrError → Type 0) (P' : A → Type 0) (Q' : AxdrError → Type 0)
     → MatchResult r P Q → ((x : A) → P x → P' x) → ((e : AxdrError) → Q e → Q' e) → MatchResult r P' Q'
 bind_both_last (Ok x) P Q P' Q' h ok err = ok x h

@@ -22,7 +22,7 @@ bytes_for n = (n + 7) / 8
 abbrev worth_of : List Bool → ℕ → ℕ → ℕ
 worth_of bs i worth = if slice_index_or bs i false then worth else 0
 
--- the byte of the first eight bits, zeros where there are fewer
+-- the byte of the first eight bits, zeros if there are fewer
 abbrev pub byte_of : List Bool → ℕ
 byte_of bs =
     worth_of bs 0 128 + worth_of bs 1 64 + worth_of bs 2 32 + worth_of bs 3 16 + worth_of bs 4 8 + worth_of bs 5 4 + worth_of bs 6 2 + worth_of bs 7 1

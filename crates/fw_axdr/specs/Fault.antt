@@ -60,7 +60,7 @@ Fails (suc levels) (t ∷ c) f = MatchOption (contents_in tags t) (f ≡ Unknown
 
 -- ---- of a value, in the order of writing
 
--- at the place of a value: TooDeep where no level is left for it, else what follows
+-- at the place of a value: TooDeep if no level is left for it, else what follows
 abbrev pub within : ℕ → Option AxdrError → Option AxdrError
 within levels behind = if levels == 0 then Some TooDeep else behind
 

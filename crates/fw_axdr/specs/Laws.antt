@@ -27,7 +27,7 @@ abbrev mutual
   HaveNumbers none = Unit {0}
   HaveNumbers (more v vs) = HasNumbers v × HaveNumbers vs
 
--- where nothing in a value is unwritable, its short spelling is a Data that spells it
+-- if nothing in a value is unwritable, its short spelling is a Data that spells it
 abbrev pub ShortSpells : Type 0
 ShortSpells = (levels : ℕ) (v : Value) → HasNumbers v → unwritable v levels ≡ None → IsData levels (short v) v
 

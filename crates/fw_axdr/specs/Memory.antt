@@ -1,4 +1,4 @@
--- Public vocabulary: for which byte strings reading may take memory at all. For the bytes of a string it takes some where there are any
+-- Public vocabulary: for which byte strings reading may take memory at all. For the bytes of a string it takes some if there are any
 -- and all of them are there. For the elements of an array or a structure it takes some once the first of them is there.
 use Rattle.std.specs.Prelude.{◌≡◌, ℕ, zero, suc, ◌≤◌, ◌⊎◌, List, [], ◌∷◌, ◌++◌, length, MatchOption}
 use Rattle.fw_axdr.specs.Bits.{bytes_for}

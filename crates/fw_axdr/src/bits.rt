@@ -70,7 +70,7 @@ impl Bits {
         self.bytes.as_slice()
     }
 
-    /// The bit at `index`, counted from 0. `None` where there are no more than `index` bits.
+    /// The bit at `index`, counted from 0. `None` if there are no more than `index` bits.
     pub fn get(&self, index: usize) -> Option<bool>
         ensures { result ≡ slice_get self.now index }
     {

@@ -3,7 +3,7 @@
 
 ghost use Rattle.fw_axdr.specs.Laws.{ShortSpells, OneSpelling, OneFault, BitsPacked, BytesPacked};
 
-/// The short spelling of a value spells it, where no part of the value is unwritable.
+/// The short spelling of a value spells it, if no part of the value is unwritable.
 pub fn short_spells()
     ensures { ShortSpells }
 {}

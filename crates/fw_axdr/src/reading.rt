@@ -137,7 +137,7 @@ pub fn read(alloc: Global, bytes: &[u8]) -> Result<(Data, usize), AxdrError>
     ensures within { IfOk result (λ x. x.1 ≤ length bytes.now) }
     ensures found { IfOk result (λ x. IsData max_depth (take x.1 bytes.now) (value_of x.0)) }
 
-    // A fault is the leftmost one, and comes only where no front of the bytes is a Data.
+    // A fault is the leftmost one, and comes only if no front of the bytes is a Data.
     ensures none { IfErr result (λ e. IfFault e (NoneBegins max_depth bytes.now)) }
     ensures fault { IfErr result (λ e. IfFault e (Fails max_depth bytes.now e)) }
 

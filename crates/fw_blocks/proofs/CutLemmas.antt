@@ -17,7 +17,7 @@ range_more from (suc n) =
     let last : from + 1 + n ≡ from + suc n = omega arith in
     ap (λ (rest : List ℕ). from ∷ rest) (range_more (from + 1) n ∙ ap (λ (k : ℕ). range_with_len (from + 1) n ++ k ∷ []) last)
 
--- a block begins within the image exactly where its number is below the count
+-- a block begins within the image exactly if its number is below the count
 pub below_count : (block_size size i : ℕ) → 1 ≤ block_size → i * block_size < size → i < block_count block_size size
 below_count b size i some begins =
     elim (cases_lt i (block_count b size)) [

@@ -57,7 +57,7 @@ first_missing-past (false ∷ bs) zero h member = cc
 first_missing-past (true ∷ bs) (suc i) h member = omega (arith, first_missing-past bs i (omega arith) member)
 first_missing-past (false ∷ bs) (suc i) h member = absurd (omega arith)
 
--- where there is no member, it is there
+-- if there is no member, it is there
 pub first_missing-here : (members : List Bool) (i : ℕ) → i ≤ first_missing members → has members i ≡ false → i ≡ first_missing members
 first_missing-here [] i h absent = omega arith
 first_missing-here (true ∷ bs) zero h absent = cc

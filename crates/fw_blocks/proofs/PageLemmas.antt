@@ -102,7 +102,7 @@ one_more : (b : Bool) (n : ℕ) → n + cond b 1 0 ≡ suc n → b ≡ true
 one_more true n h = refl
 one_more false n h = absurd (omega arith)
 
--- where all are, each is
+-- if all are, each is
 pub ones_of-all : (f : ℕ → Bool) (n : ℕ) → n ≤ ones_of f n → (i : ℕ) → i < n → f i ≡ true
 unfolding ones_of
 ones_of-all f zero all i h = absurd (omega arith)

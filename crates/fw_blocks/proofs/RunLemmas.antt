@@ -102,7 +102,7 @@ parted_put low top (f ∷ fs) old r rest p begins below some behind = (
   parted_put (f.end + 1) top fs old r rest p.2 (omega (arith, below zero f (omega arith))) (λ k d h. below (suc k) d (omega arith)) some behind,
 )
 
--- where none starts at it, one further on
+-- if none starts at it, one further on
 pub parted_past : (low top : ℕ) (rs : List Run) → Parted low top rs → low + 1 ≤ top → ((d : Run) → 0 < length rs → (get_or rs 0 d).start ≢ low)
     → Parted (low + 1) top rs
 parted_past low top [] p room gap = room

@@ -68,7 +68,7 @@ absent_numbers-all members number a =
     let within : number < length (range_with_len 0 n) = omega (arith, length-range_with_len 0 n, a.below) in
     filter-contains (λ i. not (has members i)) (range_with_len 0 n) number number within there (ap not a.absent)
 
--- where an absent number stands outside, the window is full, and all in it is below
+-- if an absent number stands outside, the window is full, and all in it is below
 pub window-lowest : (members : List Bool) (width number : ℕ) → IsAbsent members number → ¬ Contains (window members width) number
     → (length (window members width) ≡ width) × All (λ lower. lower < number) (window members width)
 window-lowest members width number a outside =

@@ -97,7 +97,7 @@ module _ {all : List ℕ} {width : ℕ} {places : List ℕ} {len : ℕ} (f : Lis
         count = ap length whole' ∙ omega (arith, longer, size);
       }
 
-  -- where there are as many as the width, no more come in
+  -- if there are as many as the width, no more come in
   pub lists_full : len ≡ width → (more : List ℕ) → Lists (all ++ more) width places len
   lists_full full more =
       let long : width ≤ length all = omega (arith, length-take width all, f.count) in

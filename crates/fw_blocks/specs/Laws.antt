@@ -6,7 +6,7 @@ use Rattle.fw_axdr.specs.Bits.{packed}
 use Rattle.fw_blocks.specs.Cuts.{block_start, block_end, cut, block_count}
 use Rattle.fw_blocks.specs.Members.{IsComplete, IsFirstMissing, first_missing}
 
--- a cut is not empty exactly where its number is below the count
+-- a cut is not empty exactly if its number is below the count
 abbrev pub NonemptyBelowCount : Type 0
 NonemptyBelowCount = (block_size i : ℕ) (bytes : List ℕ) → 1 ≤ block_size
     → (cut block_size bytes i ≢ []) ↔ (i < block_count block_size (length bytes))
@@ -40,7 +40,7 @@ abbrev pub CutOfFront : Type 0
 CutOfFront = (block_size i size : ℕ) (bytes : List ℕ) → size ≤ length bytes
     → cut block_size (take size bytes) i ≡ slice_range bytes (block_start block_size i) (block_end block_size size i)
 
--- where two byte strings are the same before block i of the one and after it, every other block is the same
+-- if two byte strings are the same before block i of the one and after it, every other block is the same
 abbrev pub OtherBlocksStay : Type 0
 OtherBlocksStay = (block_size i k : ℕ) (old new : List ℕ)
     → take (block_start block_size i) new ≡ take (block_start block_size i) old
@@ -51,7 +51,7 @@ OtherBlocksStay = (block_size i k : ℕ) (old new : List ℕ)
 abbrev pub OneFirstMissing : Type 0
 OneFirstMissing = (set : List Bool) (n : ℕ) → IsFirstMissing set n ↔ (n ≡ first_missing set)
 
--- every number is there exactly where the first missing one is the count
+-- every number is there exactly if the first missing one is the count
 abbrev pub CompleteWithoutMissing : Type 0
 CompleteWithoutMissing = (set : List Bool) → IsComplete set ↔ (first_missing set ≡ length set)
 

@@ -17,7 +17,7 @@ pub record IsAbsent (set : List Bool) (i : ℕ) : Type 0 where
 abbrev pub IsComplete : List Bool → Type 0
 IsComplete set = (i : ℕ) → i < length set → has set i ≡ true
 
--- the least absent number, or the count where none is absent
+-- the least absent number, or the count if none is absent
 pub record IsFirstMissing (set : List Bool) (n : ℕ) : Type 0 where
   pub within : n ≤ length set
   pub all_before : (i : ℕ) → i < n → has set i ≡ true

@@ -102,7 +102,7 @@ impl BlockSet {
         }
     }
 
-    /// The least number below the count that is not in the set, or the count where all are.
+    /// The least number below the count that is not in the set, or the count if all are.
     pub fn first_missing(&self) -> u32
         ensures value { result ≡ first_missing self.now }
         ensures least { IsFirstMissing self.now result }
@@ -132,7 +132,7 @@ impl BlockSet {
         Ok(Bits::from_vec(packed_bytes(alloc, self)?, count))
     }
 
-    /// The set that a bit-string shows, and `None` where it has not as many bits as there are blocks. Its one
+    /// The set that a bit-string shows, and `None` if it has not as many bits as there are blocks. Its one
     /// error is out of memory, and only for as many bits as blocks, and at least one.
     pub fn from_bits(alloc: Global, bits: &Bits, count: u32) -> Result<Option<BlockSet>, AllocError>
         ensures answer { IfOk result (λ answer. SomeIff answer (length bits.now ≡ count) bits.now) }
@@ -249,7 +249,7 @@ fn place_of(runs: &[Run], number: u32) -> usize
     runs.partition_point(|run| run.end < number)
 }
 
-/// Puts a run of one number at a place, where there is room for one more.
+/// Puts a run of one number at a place, if there is room for one more.
 fn put_alone(runs: &mut Vec<Run>, at: usize, number: u32)
     requires within { at ≤ vec_len runs.old }
     requires room { vec_len runs.old < vec_capacity runs.old }
@@ -277,7 +277,7 @@ fn packed_bytes(alloc: Global, set: &BlockSet) -> Result<Vec<u8>, AllocError>
     Ok(bytes)
 }
 
-/// The byte of the eight numbers from `from` on: the first one at the top bit, and zeros where there are fewer.
+/// The byte of the eight numbers from `from` on: the first one at the top bit, and zeros if there are fewer.
 fn byte_at(set: &BlockSet, from: u32) -> u8
     requires { from + 7 < 2 ^ 32 }
     ensures { result ≡ byte_of (drop from set.now) }
@@ -292,7 +292,7 @@ fn byte_at(set: &BlockSet, from: u32) -> u8
         + worth_of(set, from + 7, 1)
 }
 
-/// What a number adds to its byte: `worth` where it is in the set, and otherwise 0.
+/// What a number adds to its byte: `worth` if it is in the set, and otherwise 0.
 fn worth_of(set: &BlockSet, number: u32, worth: u8) -> u8
     ensures value { result ≡ (if has set.now number then worth else 0) }
     ensures most { result ≤ worth }

@@ -72,8 +72,8 @@ impl Geometry {
         self.size.div_ceil(self.block_size)
     }
 
-    /// Where block `number` begins in the image and where it ends, in bytes: the end is that of its
-    /// last byte, plus one. `None` where there is no such block.
+    /// If block `number` begins in the image and where it ends, in bytes: the end is that of its
+    /// last byte, plus one. `None` if there is no such block.
     pub fn range(self, number: u32) -> Option<(u32, u32)>
         ensures value { SomeIff result (number < block_count self.block_size self.size)
             (block_start self.block_size number, block_end self.block_size self.size number) }
@@ -95,7 +95,7 @@ impl Geometry {
         Some((start, end))
     }
 
-    /// The bytes of block `number` of an image that is cut into blocks of this size. `None` where it has no
+    /// The bytes of block `number` of an image that is cut into blocks of this size. `None` if it has no
     /// such block.
     pub fn cut(self, image: &[u8], number: u32) -> Option<&[u8]>
         ensures value { SomeIff (option_copied result) (number < block_count self.block_size (length image.now))

@@ -16,12 +16,12 @@ ghost use Rattle.fw_blocks.specs.Laws.{
 
 use fw_axdr::laws;
 
-/// A cut has a byte exactly where its number is below the count.
+/// A cut has a byte exactly if its number is below the count.
 pub fn nonempty_below_count()
     ensures { NonemptyBelowCount }
 {}
 
-/// A block begins within the image exactly where its number is below the count.
+/// A block begins within the image exactly if its number is below the count.
 pub fn begins_within()
     ensures { BeginsWithin }
 {}
@@ -51,17 +51,17 @@ pub fn cut_of_front()
     ensures { CutOfFront }
 {}
 
-/// Where a byte string is written within one block alone, every other block stays as it was.
+/// If a byte string is written within one block alone, every other block stays as it was.
 pub fn other_blocks_stay()
     ensures { OtherBlocksStay }
 {}
 
-/// The first missing number is the least absent one, or the count where none is absent.
+/// The first missing number is the least absent one, or the count if none is absent.
 pub fn one_first_missing()
     ensures { OneFirstMissing }
 {}
 
-/// Every number is in the set exactly where the first missing one is the count.
+/// Every number is in the set exactly if the first missing one is the count.
 pub fn complete_without_missing()
     ensures { CompleteWithoutMissing }
 {}

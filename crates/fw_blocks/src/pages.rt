@@ -134,7 +134,7 @@ impl Pages {
         has_bit(&self.words, number)
     }
 
-    /// The least number below the count that is not marked, or the count where all are.
+    /// The least number below the count that is not marked, or the count if all are.
     pub fn first_missing(&self) -> u32
         ensures value { result ≡ first_missing self.now }
         ensures least { IsFirstMissing self.now result }
@@ -206,7 +206,7 @@ impl Pages {
         ensures value { result ≡ packed (all_marks self.now) }
         ensures size { length (all_marks self.now) ≡ max_blocks }
 
-        // Where the pages count all these numbers, they are their own marks.
+        // If the pages count all these numbers, they are their own marks.
         ensures whole { length self.now ≡ max_blocks → all_marks self.now ≡ self.now }
     {
         laws::bytes_packed();

@@ -88,7 +88,7 @@ impl Window {
         ensures absent { All (IsAbsent set.now) result }
         ensures most { length result ≤ width }
 
-        // Where an absent number isn't in the window, the window is full, and all its numbers are below that one.
+        // If an absent number isn't in the window, the window is full, and all its numbers are below that one.
         ensures lowest { (number : ℕ) → IsAbsent set.now number → ¬ Contains result number →
             (length result ≡ width) × All (λ lower. lower < number) result }
     {

@@ -126,7 +126,7 @@ IsBook-changed book serial change keeps kept = record {
   apart = at_apart serial change keeps book.campaigns kept.apart;
 }
 
--- a change of each row, which keeps its meter and makes it live only where it was
+-- a change of each row, which keeps its meter and makes it live only if it was
 pub record KeepsRow (change : Row → Row) : Type 0 where
   pub meter : (row : Row) → (change row).meter ≡ row.meter
   pub ends : (row : Row) → is_live (change row).state ≡ true → is_live row.state ≡ true

@@ -69,7 +69,7 @@ changed_later true b false is = refl
 changed_later false b gone is = refl
 
 -- A change of the rows of one campaign, in which a meter was live that isn't live in them any more: it is live in no campaign then,
--- since no meter is live in two. Where it was not live, nothing changes.
+-- since no meter is live in two. If it was not live, nothing changes.
 pub busy_changed : (serial : ℕ) (change : List Row → List Row) (offer : Offered) (m : ℕ) (gone : Bool) → (gone ≡ true → is_live_in offer.rows m ≡ true) → is_live_in (change offer.rows) m ≡ (is_live_in offer.rows m && not gone)
     → (entries : List (ℕ × Offered)) → AllApart entries → lookup (nat_eq serial) entries ≡ Some offer → is_busy (at_serial serial change entries) m ≡ (is_busy entries m && not gone)
 busy_changed serial change offer m gone is ends [] apart found = refl

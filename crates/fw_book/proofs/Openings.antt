@@ -18,7 +18,7 @@ use Rattle.fw_book.specs.Laws.{AdmittedOpens}
 some_none : (refusal : BookError) → Some refusal ≡ None → ⊥
 some_none refusal h = cc
 
--- where nothing refuses, no test is true
+-- if nothing refuses, no test is true
 tests_none : (rows : List (Bool × BookError)) → first_applying rows ≡ None → AllByRecursion (λ (row : Bool × BookError). row.0 ≡ false) rows
 tests_none [] h = tt
 tests_none (row ∷ rows) h =

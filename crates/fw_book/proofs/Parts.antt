@@ -180,7 +180,7 @@ book_found v bytes entries rest head book e of_head before =
     e ∙ ap (λ (l : List ℕ). head_bytes v head ++ l) before ∙ sym (append_assoc (head_bytes v head) (entries_bytes v book.campaigns) rest)
     ∙ ap (λ (n : ℕ). (head_bytes v n ++ entries_bytes v book.campaigns) ++ rest) (sym of_head)
 
--- where no book goes on so, no book is spelled
+-- if no book goes on so, no book is spelled
 pub book_refused : (v : Version) (bytes rest : List ℕ) (book : Contents) → bytes ≡ book_bytes v book ++ rest → IsBook book → TellsAll v book.campaigns → (rest ≡ [] → ⊥) → NoMore v book rest → (target : Contents) → SpellsIn v bytes target → ⊥
 book_refused v bytes rest book e is tells some none target spells =
     let e' : head_bytes v book.head ++ (entries_bytes v book.campaigns ++ rest) ≡ head_bytes v target.head ++ entries_bytes v target.campaigns =
@@ -197,7 +197,7 @@ book_refused v bytes rest book e is tells some none target spells =
           let entry_is = all_at (λ (x : ℕ × Offered). IsEntryIn v x) book.campaigns entry entries (subst (λ (xs : List (ℕ × Offered)). AllByRecursion (λ (x : ℕ × Offered). IsEntryIn v x) xs) t told) in
           none entry entries (subst (λ (b : Contents). IsBook b) whole spells.is_book) entry_is r
 
--- where no book goes on so, its campaigns are none of a book's
+-- if no book goes on so, its campaigns are none of a book's
 pub campaigns_refused : (v : Version) (entries rest : List ℕ) (book : Contents) → IsBook book → TellsAll v book.campaigns → entries ≡ entries_bytes v book.campaigns ++ rest → (rest ≡ [] → ⊥) → NoMore v book rest → (campaigns : List (ℕ × Offered)) → IsBook (record { head = book.head; campaigns = campaigns }) → TellsAll v campaigns → entries ≡ entries_bytes v campaigns → ⊥
 campaigns_refused v entries rest book is tells before some none campaigns is' tells' e =
     let bytes : List ℕ = head_bytes v book.head ++ entries in
@@ -205,13 +205,13 @@ campaigns_refused v entries rest book is tells before some none campaigns is' te
     book_refused v bytes rest book (book_found v bytes entries rest book.head book refl refl before) is tells some none target
     (record { is_book = is'; tells = tells'; spelled = ap (λ (l : List ℕ). head_bytes v book.head ++ l) e })
 
--- where no form and head end stand there, no book is read
+-- if no form and head end stand there, no book is read
 pub headless : (bytes : List ℕ) → ((v : Version) (head : ℕ) (rest : List ℕ) → 1 ≤ head → head < 2 ^ 32 → bytes ≡ head_bytes v head ++ rest → ⊥) → (book : Contents) → IsReadAs bytes book → ⊥
 headless bytes none book read =
     let spells = in_version bytes book read in
     none spells.0 book.head (entries_bytes spells.0 book.campaigns) spells.1.is_book.head_begins spells.1.is_book.head_fits spells.1.spelled
 
--- nor where no campaigns of the head end stand after them
+-- nor if no campaigns of the head end stand after them
 pub other_campaigns : (v : Version) (bytes entries : List ℕ) (head : ℕ) → bytes ≡ head_bytes v head ++ entries → head < 2 ^ 32 → NoCampaigns v head entries → (book : Contents) → IsReadAs bytes book → ⊥
 other_campaigns v bytes entries head e fits none book read =
     let spelled = in_version bytes book read in

@@ -67,7 +67,7 @@ rows_unique (a ∷ xs) (b ∷ ys) s t n ha hb e =
     let rest = rows_unique xs ys s t (omega (arith, n)) ha.1 hb.1 first.1 in
     (ap (λ r. r ∷ xs) first.0 ∙ ap (λ rs. b ∷ rs) rest.0, rest.1)
 
--- where more rows stand than these, a row stands after these
+-- if more rows stand than these, a row stands after these
 pub rows_next : (rows target : List Row) (s t : List ℕ) → length rows < length target → MetersFit rows → MetersFit target → rows_bytes rows ++ s ≡ rows_bytes target ++ t → (row : Row) × (rest : List ℕ) × (row.meter < 2 ^ 32) × (s ≡ row_bytes row ++ rest)
 rows_next rows [] s t n ha hb e = absurd (omega (arith, n))
 rows_next [] (b ∷ ys) s t n ha hb e = (b, rows_bytes ys ++ t, hb.0, e ∙ append_assoc (row_bytes b) (rows_bytes ys) t)

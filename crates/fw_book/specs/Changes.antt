@@ -101,7 +101,7 @@ DoneRefused book campaign claim NotLive =
     × (name_in book campaign ≡ Some claim.name)
 DoneRefused book campaign claim _ = ⊥
 
--- the first refusal that applies, or OutOfMemory where none does
+-- the first refusal that applies, or OutOfMemory if none does
 abbrev pub IsRefusal : Option BookError → BookError → Type 0
 IsRefusal (Some refusal) error = error ≡ refusal
 IsRefusal None error = error ≡ OutOfMemory

@@ -8,7 +8,7 @@ use Rattle.fw_book.specs.declared.row.Row.{Row}
 use Rattle.fw_book.specs.declared.row.RowState.{RowState}
 use Rattle.fw_book.specs.Rows.{state_of, meters_of, repeats, is_live_in}
 
--- what a campaign offers, and to which meters: an image of a release, which is 0 where the image has none
+-- what a campaign offers, and to which meters: an image of a release, which is 0 if the image has none
 pub record Offered : Type 0 where
   pub release : ℕ
   pub image : List ℕ

@@ -69,6 +69,6 @@ StatesFollowCalls = (book : Contents) (campaign : Campaign) → campaign.head �
 
 -- ---- openings
 
--- nothing refuses an opening exactly where the book opens the campaign
+-- nothing refuses an opening exactly if the book opens the campaign
 abbrev pub AdmittedOpens : Type 0
 AdmittedOpens = (book : Contents) (campaign : Campaign) (image meters : List ℕ) → (opening_refusal book campaign image meters ≡ None) ↔ Opens book campaign image meters

@@ -32,7 +32,7 @@ pub struct Book {
     live: LiveMeters,
 }
 
-// Written out: where a book is let go, that is one call, and none of its parts is looked into.
+// Written out, so that letting go of it is one call in a proof. A derived `Drop` is unfolded there field by field, which takes minutes.
 impl Drop for Book {
     fn drop(self) {
         let Book {
@@ -93,7 +93,7 @@ impl Book {
         self.head
     }
 
-    /// What a campaign offers, and `None` where the book doesn't have it.
+    /// What a campaign offers, and `None` if the book doesn't have it.
     pub fn offer(&self, campaign: CampaignId) -> Option<&Offer>
         ensures offer { option_copied result ≡ offered_in self.now campaign }
         ensures opened { OnSome result (IsOpened campaign) }
@@ -104,7 +104,7 @@ impl Book {
         self.campaigns.get(&campaign.serial())
     }
 
-    /// The name under which a campaign offers its image, and `None` where the book doesn't have it. No byte of the image is
+    /// The name under which a campaign offers its image, and `None` if the book doesn't have it. No byte of the image is
     /// read.
     pub fn name(&self, campaign: CampaignId) -> Option<ImageName>
         ensures { result ≡ name_in self.now campaign }
@@ -113,7 +113,7 @@ impl Book {
         Some(offer.name(campaign))
     }
 
-    /// The state of a meter in a campaign, and `None` where the book doesn't have the campaign, or the campaign doesn't have the
+    /// The state of a meter in a campaign, and `None` if the book doesn't have the campaign, or the campaign doesn't have the
     /// meter.
     pub fn state(&self, campaign: CampaignId, meter: MeterId) -> Option<RowState>
         ensures { result ≡ state_in self.now campaign meter }
@@ -229,7 +229,7 @@ impl Book {
         Ok(())
     }
 
-    /// Adds a campaign after the others. Room is made for it first, so that the meters are added only where the campaign is.
+    /// Adds a campaign after the others. Room is made for it first, so that the meters are added only if the campaign is.
     fn add(&mut self, serial: u32, offer: Offer) -> Result<(), BookError>
         requires { Admits self.old serial offer }
         ensures ok { OnOk result (self.new ≡ added self.old serial offer) }
@@ -247,7 +247,7 @@ impl Book {
     ///
     /// # Errors
     ///
-    /// `NoSuchCampaign` or `NotLive`, where none of its rows is live, the first that applies. The book is then as it was.
+    /// `NoSuchCampaign` or `NotLive`, if none of its rows is live, the first that applies. The book is then as it was.
     pub fn cancel(&mut self, campaign: CampaignId) -> Result<(), BookError>
         ensures cancelled { OnOk result (self.new ≡ cancelled self.old campaign.serial) }
         ensures admitted { OnOk result (cancel_refusal self.old campaign ≡ None) }
@@ -400,7 +400,7 @@ impl Book {
     ///
     /// # Errors
     ///
-    /// `BadBook` where they spell none in either version. Otherwise `OutOfMemory` alone, and only for a book that has a campaign.
+    /// `BadBook` if they spell none in either version. Otherwise `OutOfMemory` alone, and only for a book that has a campaign.
     pub fn read(alloc: Global, bytes: &[u8]) -> Result<Book, BookError>
         ensures found { IfOk result (IsReadAs bytes.now) }
 

@@ -29,7 +29,7 @@ pub fn states_follow()
     ensures { StatesFollowCalls }
 {}
 
-/// An opening is refused for nothing exactly where the campaign is of the book's head end and its serial number is new, the image
+/// An opening is refused for nothing exactly if the campaign is of the book's head end and its serial number is new, the image
 /// has 1 to 16,777,216 bytes, and the meters are 1 to 256, of which none stands twice and none is live in a campaign of the book.
 pub fn admitted_opens()
     ensures { AdmittedOpens }

@@ -62,7 +62,7 @@ impl Offer {
         })
     }
 
-    /// The release of the image, and 0 where it has none.
+    /// The release of the image, and 0 if it has none.
     pub fn release(&self) -> u32
         ensures value { result ≡ self.now.release }
         ensures fits { self.now.release < 2 ^ 32 }
@@ -96,7 +96,7 @@ impl Offer {
         self.rows.as_slice()
     }
 
-    /// The state of a meter, and `None` where the campaign doesn't have it. The rows are looked through.
+    /// The state of a meter, and `None` if the campaign doesn't have it. The rows are looked through.
     pub fn state(&self, meter: MeterId) -> Option<RowState>
         ensures { result ≡ state_of self.now.rows meter }
     {

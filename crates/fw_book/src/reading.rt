@@ -111,7 +111,7 @@ pub(crate) fn head_at(bytes: &[u8]) -> Option<(Front, &[u8])>
     Some((Front { version, head }, rest))
 }
 
-/// A campaign's serial number and its release, which is 0 where the version has none, and what follows them.
+/// A campaign's serial number and its release, which is 0 if the version has none, and what follows them.
 fn numbers_at(version: Version, bytes: &[u8]) -> Option<(u32, u32, &[u8])>
     ensures found { IfSome result (λ r. bytes.now ≡ numbers_bytes version r.0 r.1 ++ r.2.now) }
     ensures fits { IfSome result (λ r. AreNumbers version r.0 r.1) }

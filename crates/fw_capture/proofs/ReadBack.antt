@@ -174,7 +174,7 @@ packet_is_read time told rest known allowed =
     (ap (λ (x : List ℕ). frame_at link.Raw x) frame ∙ back.0)
     ∙ ap (λ (k : ℕ). Ok (k, told, length (packet_bytes time told))) moment
 
--- what was read, where there is no fault
+-- what was read, if there is no fault
 abbrev read_value : Result (ℕ × Told × ℕ) CaptureFault → ℕ × Told × ℕ
 read_value (Ok x) = x
 read_value (Err e) = (0, other, 0)

@@ -1,4 +1,4 @@
--- What is read where there is no fault before it.
+-- What is read if there is no fault before it.
 use Rattle.std.proofs.Common.{◌≡◌, ℕ, ◌+◌, ◌-◌, ◌<◌, ◌≤◌, false, List, length, take, drop, Result, Ok, sym, ap, ◌∙◌, arith}
 use Rattle.std.proofs.lemmas.Bool.{le-ltb, lt-leb, eq-eqb}
 use Rattle.std.proofs.lemmas.List.{drop-take}

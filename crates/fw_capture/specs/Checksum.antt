@@ -8,7 +8,7 @@ word_sum (a ∷ []) = a * 256
 word_sum (a ∷ b ∷ bytes) = a * 256 + b + word_sum bytes
 
 -- The ones' complement sum, in which each carry out of the 16 bits is added again at the other end: so it is the sum less a multiple
--- of 2 ^ 16 - 1. It is 0 only where each word is 0.
+-- of 2 ^ 16 - 1. It is 0 only if each word is 0.
 abbrev pub ones_complement : ℕ → ℕ
 ones_complement sum = if sum == 0 then 0 else (sum - 1) % 65535 + 1
 

@@ -42,7 +42,7 @@ refusal_rows nanoseconds told =
 abbrev pub refusal_of : ℕ → Told → Option AppendError
 refusal_of nanoseconds told = first_applying (refusal_rows nanoseconds told)
 
--- the error is the refusal; `OutOfMemory` comes only where nothing refuses the packet
+-- the error is the refusal; `OutOfMemory` comes only if nothing refuses the packet
 abbrev pub IsRefusal : Option AppendError → AppendError → Type 0
 IsRefusal refusal OutOfMemory = refusal ≡ None
 IsRefusal refusal TimePast = refusal ≡ Some TimePast

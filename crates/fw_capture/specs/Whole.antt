@@ -44,7 +44,7 @@ is_part f bytes =
     || (nat_lt (fraction_at f bytes) (fractions f) && (says_twice f bytes
     && (nat_le (size_at f bytes) longest_packet && nat_lt (length bytes) (16 + size_at f bytes))))
 
--- No record stands at the front, but less than one, and zeros that a disk has where nothing was written.
+-- No record stands at the front, but less than one, and zeros that a disk has if nothing was written.
 pub record IsTorn (f : Format) (bytes : List ℕ) : Type 0 where
   pub none : (x : ℕ × Told × ℕ) → ¬ IsRecord f bytes x
   pub part : is_part f (without_zeros bytes) ≡ true

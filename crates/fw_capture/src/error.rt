@@ -8,7 +8,7 @@ use std::alloc::AllocError;
 use std::fmt;
 use thiserror::Error;
 
-/// The refusals of `append_packet`. Where several would apply, the first of them comes.
+/// The refusals of `append_packet`. If several would apply, the first of them comes.
 #[derive(Clone, Copy, Debug, Drop, Error)]
 pub enum AppendError {
     /// The time is past what 32 bits of seconds hold.

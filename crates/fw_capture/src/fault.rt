@@ -3,7 +3,7 @@
 use std::fmt;
 use thiserror::Error;
 
-/// The faults of a capture. Where several would apply to a packet, the first of them comes.
+/// The faults of a capture. If several would apply to a packet, the first of them comes.
 #[derive(Clone, Copy, Debug, Drop, PartialEq, Eq, Error)]
 pub enum CaptureFault {
     /// The file header lacks a byte.

@@ -12,7 +12,7 @@ pub fn packet_is_read()
     ensures { PacketIsRead }
 {}
 
-/// Where a capture that is written goes on with such a record, the next packet of a reader there is that packet, and the reader goes on
+/// If a capture that is written goes on with such a record, the next packet of a reader there is that packet, and the reader goes on
 /// with what follows the record.
 pub fn next_is_read()
     ensures { NextIsRead }

@@ -44,6 +44,6 @@ pub struct Packet<'a> {
     pub offset: usize,
     /// The time since the start of 1970, UTC.
     pub nanoseconds: u64,
-    /// What it tells. There is none where it is neither UDP over IP in one piece nor a note.
+    /// What it tells. There is none if it is neither UDP over IP in one piece nor a note.
     pub content: Option<Content<'a>>,
 }

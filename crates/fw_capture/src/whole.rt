@@ -32,14 +32,14 @@ enum Front {
     Foreign,
 }
 
-/// How many bytes of a capture are whole: its file header and the records behind it, one after another. What is left then is nothing, or what a
-/// write leaves that was cut short, by a power cut or a full disk: less than a record, and zeros. It is read up to its end or its fault, and
-/// one record at a time is in memory.
+/// How many bytes of a capture are whole: its file header and the records behind it, one after another. What is left then is nothing, or
+/// what a write leaves that was cut short, by a power cut or a full disk: less than a record, and zeros. It is read up to its end or its
+/// fault, and one record at a time is in memory.
 ///
 /// # Errors
 ///
 /// - `Header`: what is wrong with the file header.
-/// - `Foreign`: where something else stands behind the whole records.
+/// - `Foreign`: if something else stands behind the whole records.
 /// - `Input`: the reader failed, or came to no end.
 /// - `OutOfMemory`.
 pub fn whole_len<R: Read>(alloc: Global, reader: &mut R) -> Result<u64, WholeError>
@@ -218,7 +218,7 @@ fn fill<R: Read>(reader: &mut R, bytes: &mut Vec<u8>, len: usize) -> Result<(), 
     Err(WholeError::Input)
 }
 
-/// Reads once: how many bytes, or nothing where the reader was interrupted.
+/// Reads once: how many bytes, or nothing if the reader was interrupted.
 fn read_some<R: Read>(reader: &mut R, chunk: &mut [u8]) -> Result<Option<usize>, WholeError>
     ensures bytes { IfOk result (λ read. MatchOption read (Keeps (R.remaining reader.old) (R.remaining reader.new)) (λ count.
         (count ≤ length chunk.new) × Consumes (R.remaining reader.old) (R.remaining reader.new) (take count chunk.new)

@@ -164,7 +164,7 @@ fn put(out: &mut Vec<u8>, captured: &Captured<'_>) -> Result<(), AllocError>
 ///
 /// # Errors
 ///
-/// `TimePast`, `TwoFamilies` or `TooLong`: the first that applies. `OutOfMemory` only where none does. An error leaves the capture as
+/// `TimePast`, `TwoFamilies` or `TooLong`: the first that applies. `OutOfMemory` only if none does. An error leaves the capture as
 /// it was.
 pub fn append_packet(capture: &mut Vec<u8>, captured: &Captured<'_>) -> Result<(), AppendError>
     ensures appended { OnOk result (capture.new.items ≡ capture.old.items

@@ -12,7 +12,7 @@ OneHearing =
     (old new other : State) (datagram : List ℕ) (h k : Heard)
     → Hears old datagram h new → Hears old datagram k other → (h ≡ k) × (new ≡ other)
 
--- a claim is heard exactly where a meter made it
+-- a claim is heard exactly if a meter made it
 abbrev pub OnlyClaimed : Type 0
 OnlyClaimed =
     (old new : State) (datagram : List ℕ) (h : Heard) (claim : Claim)

@@ -93,7 +93,7 @@ impl Client {
     ///
     /// # Errors
     ///
-    /// `AllBusy` where that id is outstanding, and otherwise `OutOfMemory` alone, since each datagram takes memory. The client is
+    /// `AllBusy` if that id is outstanding, and otherwise `OutOfMemory` alone, since each datagram takes memory. The client is
     /// then as before.
     pub fn ask(&mut self, alloc: Global, ask: &Ask<'_>) -> Result<Vec<u8>, AskError>
         requires { Fits (ask_of ask.now) }
@@ -133,7 +133,7 @@ impl Client {
     /// then as before.
     pub fn hear(&mut self, alloc: Global, datagram: &[u8]) -> Result<Heard, OutOfMemory>
         ensures hears { IfOk result (λ heard. Hears self.old datagram.now heard self.new) }
-        // A claim is given exactly where the meter's answer spells it.
+        // A claim is given exactly if the meter's answer spells it.
         ensures claims { IfOk result (λ heard. (claim : Claim)
             → (heard ≡ Heard.Active claim) ↔ IsClaimed self.old datagram.now claim) }
         ensures same { OnErr result (self.new ≡ self.old) }

@@ -7,7 +7,7 @@ use std::alloc::{AllocError, AllocFailed};
 use std::fmt;
 use thiserror::Error;
 
-/// The refusals of `Client::ask`. Where both would apply, the first comes.
+/// The refusals of `Client::ask`. If both would apply, the first comes.
 #[derive(Clone, Copy, Debug, Error)]
 pub enum AskError {
     /// The next invoke-id is that of an outstanding ask.

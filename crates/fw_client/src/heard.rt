@@ -16,7 +16,7 @@ pub enum Heard {
     BitSet(Bits),
     /// image_transfer_status.
     Status(u8),
-    /// image_to_activate_info: the name of the one image in it, or `None` where it isn't of one image that has a name.
+    /// image_to_activate_info: the name of the one image in it, or `None` if it isn't of one image that has a name.
     Info(Option<ImageName>),
     /// The code of the answer, a Data-Access-Result or an Action-Result: 0 for success (IEC 62056-5-3).
     Code { asked: Asked, code: u8 },

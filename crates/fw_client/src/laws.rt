@@ -11,7 +11,7 @@ pub fn one_hearing()
     fw_apdu::laws::one_response();
 }
 
-/// A claim is heard exactly where the meter answered an ask for its active name by an octet-string that spells the claim's name.
+/// A claim is heard exactly if the meter answered an ask for its active name by an octet-string that spells the claim's name.
 pub fn only_claimed()
     ensures { OnlyClaimed }
 {

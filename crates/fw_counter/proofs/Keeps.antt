@@ -92,7 +92,7 @@ module _ {D : Type 0} (J : JournalDevice.Ghosts D) where
               within = holds.within;
             })) unchanged
 
-      -- at any moment what was reserved is left, also where no more are reserved
+      -- at any moment what was reserved is left, also if no more are reserved
       pub commit_leaves : IsKept J old → (Holds J old → LeavesOnly J.moment J.left_since (device_of old) (journal.device_of after) (λ left. Reserves left old.reserved ⊎ Reserves left bound))
           → (IsTrue (is_broken old) → after ≡ old.journal) → LeavesOnly J.moment J.left_since (device_of old) (journal.device_of after) (λ left. HasReserved left old.reserved)
       commit_leaves kept moments same =

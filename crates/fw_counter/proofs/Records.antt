@@ -54,7 +54,7 @@ pub unfit_reserves_none : OneReading → (bytes : List ℕ) (records : List (Lis
 unfit_reserves_none reading bytes records stands unfit = λ bound reserves.
     unfit (subst (λ (l : List (List ℕ)). AreReservations l) (reading bytes reserves.records records reserves.stands stands) reserves.fit)
 
--- where all reserved ones are used, a range more is reserved
+-- if all reserved ones are used, a range more is reserved
 pub used_after : (c : Counter) → c.reserved ≤ c.next → reserved_after c ≡ min (c.next + range) limit
 used_after c le = search (rules, le)
 

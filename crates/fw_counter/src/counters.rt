@@ -49,7 +49,7 @@ pub struct KeptCounters<D: JournalDevice> {
     reserved: u32,
 }
 
-// Written out: where counters are let go, that is one call, and none of their parts is looked into.
+// Written out, so that letting go of it is one call in a proof. A derived `Drop` is unfolded there field by field, which takes minutes.
 impl<D: JournalDevice + Drop> Drop for KeptCounters<D> {
     fn drop(self) {
         let KeptCounters {
@@ -68,7 +68,7 @@ impl<D: JournalDevice> KeptCounters<D> {
     ///
     /// # Errors
     ///
-    /// `NotEmpty` where there are bytes, which are left as they are and reported before memory is taken; else `BookFault` and
+    /// `NotEmpty` if there are bytes, which are left as they are and reported before memory is taken; else `BookFault` and
     /// `OutOfMemory`. The device is returned.
     pub fn create(alloc: Global, device: D) -> Result<Self, (JournalError, D)>
         ensures made { IsTrue (D.honest device) → IfOk result (λ counters. Holds D.JournalDevice counters) }
@@ -96,7 +96,7 @@ impl<D: JournalDevice> KeptCounters<D> {
     ///
     /// # Errors
     ///
-    /// `NoCounter` where the bytes are no journal's, or where a record isn't a number of four bytes. Else `CounterFault` and `OutOfMemory`,
+    /// `NoCounter` if the bytes are no journal's, or if a record isn't a number of four bytes. Else `CounterFault` and `OutOfMemory`,
     /// of the device or of the keeper, which may come in place of it. The device is returned.
     pub fn open<K: Keeper>(
         alloc: Global,
@@ -169,13 +169,13 @@ impl<D: JournalDevice> KeptCounters<D> {
         journal.into_device()
     }
 
-    /// The next counter, which is used by that: it isn't given again, whatever becomes of the caller. Where all reserved ones are used, a
+    /// The next counter, which is used by that: it isn't given again, whatever becomes of the caller. If all reserved ones are used, a
     /// range more is reserved and synced first. From `Ok` on every power cut leaves records that reserve it.
     ///
     /// # Errors
     ///
-    /// `CounterSpent` where all are used. Else, where a range has to be reserved, `CounterFault`, where the device fails, where it failed in
-    /// an earlier call, or where the journal has 2^60 bytes or more; or `OutOfMemory`. The counter is as before then. No more are reserved
+    /// `CounterSpent` if all are used. Else, where a range has to be reserved, `CounterFault`, if the device fails, where it failed in
+    /// an earlier call, or if the journal has 2^60 bytes or more; or `OutOfMemory`. The counter is as before then. No more are reserved
     /// from a `CounterFault` on that the device gave.
     pub fn take(&mut self, alloc: Global) -> Result<u32, CounterError>
         ensures given { IfOk result (λ number. number ≡ (counter_of self.old).next) }

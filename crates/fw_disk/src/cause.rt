@@ -35,7 +35,7 @@ pub enum Cause {
     NotAlone,
     /// By its first bytes it isn't ours.
     Foreign,
-    /// Anything else, by the system's number, 0 where it gave none.
+    /// Anything else, by the system's number, 0 if it gave none.
     Other { code: i32 },
 }
 

@@ -58,7 +58,7 @@ const PIECE_SIZE: usize = 4096;
 ///
 /// # Errors
 ///
-/// `Full` where there is no room, and those of the system. Some of the zeros may then be there.
+/// `Full` if there is no room, and those of the system. Some of the zeros may then be there.
 pub fn reserve<F: Folder>(folder: &mut F, file: &F::File, from: u64, to: u64) -> Result<(), Cause>
     ensures done { IsTrue (F.seen folder.old).honest → length ((F.seen folder.old).disk.bytes (F.number file.now)) ≡ from
         → OnOk result ((F.seen folder.new).disk.bytes (F.number file.now)

@@ -76,7 +76,7 @@ pub trait Folder {
         ensures goes { Goes Stays (seen self.old) (seen self.new) }
         ensures cause { IfErr result IsOfSystem };
 
-    /// Makes a file where nothing has the name. It may be made though its lock is refused.
+    /// Makes a file if nothing has the name. It may be made though its lock is refused.
     fn create(&mut self, name: Name) -> Result<Self::File, Cause>
         ensures done { IsTrue (seen self.old).honest → IfOk result (λ file.
             (number file ≡ (seen self.old).disk.next) × Creates name (number file) (seen self.old).disk (seen self.new).disk) }
@@ -105,7 +105,7 @@ pub trait Folder {
         ensures goes { Goes Stays (seen self.old) (seen self.new) }
         ensures cause { IfErr result IsOfSystem };
 
-    /// Fills `out` with the bytes from `at` on. Where there are fewer of them, nothing is known of the result.
+    /// Fills `out` with the bytes from `at` on. If there are fewer of them, nothing is known of the result.
     fn read_at(&mut self, file: &Self::File, at: u64, out: &mut [u8]) -> Result<(), Cause>
         ensures done { IsTrue (seen self.old).honest
             → at + length out.old ≤ length ((seen self.old).disk.bytes (number file.now))
@@ -113,7 +113,7 @@ pub trait Folder {
         ensures goes { Goes Stays (seen self.old) (seen self.new) }
         ensures cause { IfErr result IsOfSystem };
 
-    /// Writes bytes over those from `at` on, and past the end. Where `at` is after the end, only its range is known.
+    /// Writes bytes over those from `at` on, and past the end. If `at` is after the end, only its range is known.
     fn write_at(&mut self, file: &Self::File, at: u64, bytes: &[u8]) -> Result<(), Cause>
         ensures done { IsTrue (seen self.old).honest
             → at ≤ length ((seen self.old).disk.bytes (number file.now))
@@ -132,7 +132,7 @@ pub trait Folder {
         ensures goes { Goes Stays (seen self.old) (seen self.new) }
         ensures cause { IfErr result IsOfSystem };
 
-    /// Makes the bytes of a file durable, so that a power cut leaves them.
+    /// Makes the bytes of a file durable (fsync), so that a power cut leaves them.
     fn sync(&mut self, file: &Self::File) -> Result<(), Cause>
         ensures done { IsTrue (seen self.old).honest → OnOk result (IsSynced (number file.now) (seen self.new)) }
         ensures goes { Goes Stays (seen self.old) (seen self.new) }
@@ -152,7 +152,7 @@ pub trait Folder {
         ensures goes { Goes (MayRemove name) (seen self.old) (seen self.new) }
         ensures cause { IfErr result IsOfSystem };
 
-    /// Makes the names durable, so that a power cut leaves them.
+    /// Makes the names durable (fsync of the folder), so that a power cut leaves them.
     fn sync_folder(&mut self) -> Result<(), Cause>
         ensures done { IsTrue (seen self.old).honest → OnOk result (AreNamesSynced (seen self.new)) }
         ensures goes { Goes Stays (seen self.old) (seen self.new) }

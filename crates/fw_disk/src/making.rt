@@ -16,8 +16,8 @@ use crate::opening::open_ours;
 ///
 /// # Errors
 ///
-/// `NotAlone` where a link is there, no regular file, or one that has another name as well; `Foreign` where a file is there that isn't
-/// ours by its bytes; `Locked` where another process has it; and those of the system. Where what is there isn't ours, nothing is changed:
+/// `NotAlone` if a link is there, no regular file, or one that has another name as well; `Foreign` if a file is there that isn't
+/// ours by its bytes; `Locked` if another process has it; and those of the system. If what is there isn't ours, nothing is changed:
 /// no entry, and no byte of any file.
 pub fn begin<F: Folder, K: Kind>(folder: &mut F, name: Name, kind: &K) -> Result<F::File, Cause>
     ensures taken { IsTrue (F.seen folder.old).honest
@@ -40,7 +40,7 @@ pub fn begin<F: Folder, K: Kind>(folder: &mut F, name: Name, kind: &K) -> Result
     }
 }
 
-/// Makes a file where nothing has the name. If that fails later, the name is taken away again.
+/// Makes a file if nothing has the name. If that fails later, the name is taken away again.
 fn make<F: Folder>(folder: &mut F, name: Name) -> Result<F::File, Cause>
     ensures fresh { IsTrue (F.seen folder.old).honest
         → IfOk result (λ file. ((F.seen folder.old).disk.entry name ≡ absent) × (F.number file ≡ (F.seen folder.old).disk.next)) }

@@ -60,7 +60,7 @@ fn end_renaming<F: Folder>(folder: &mut F, file: &F::File) -> Result<(), Cause>
 ///
 /// # Errors
 ///
-/// `NotAlone` and `Foreign` where something else is there, and those of the system. Nothing is changed.
+/// `NotAlone` and `Foreign` if something else is there, and those of the system. Nothing is changed.
 pub fn open_companion<F: Folder, K: Kind>(
     folder: &mut F,
     name: Name,

@@ -18,7 +18,7 @@ use crate::name::{Found, Name};
 ///
 /// # Errors
 ///
-/// `NotNamed` with `Exists` where something has the name FILE, or with one of the system: it is as before. `NotSynced` where the folder
+/// `NotNamed` with `Exists` if something has the name FILE, or with one of the system: it is as before. `NotSynced` if the folder
 /// couldn't be synced.
 pub fn finish<F: Folder>(folder: &mut F, file: &F::File) -> Result<(), NamingError>
     ensures absent { IsTrue (F.seen folder.old).honest → OnOk result ((F.seen folder.old).disk.entry Main ≡ absent) }
@@ -71,7 +71,7 @@ fn give_name<F: Folder>(folder: &mut F) -> Result<(), NamingError>
 ///
 /// # Errors
 ///
-/// `NotNamed`: FILE is the old file. With `NotAlone`, also where that has another name as well, under which it would be left; with what
+/// `NotNamed`: FILE is the old file. With `NotAlone`, also if that has another name as well, under which it would be left; with what
 /// `begin` is refused for; or with one of the system. `NotSynced`: FILE is the new file, but its folder couldn't be synced.
 pub fn replace<F: Folder, K: Kind>(
     folder: &mut F,

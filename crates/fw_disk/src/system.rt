@@ -24,7 +24,7 @@ impl<'a, R: Files<File = File>> SystemFolder<'a, R> {
     ///
     /// # Errors
     ///
-    /// `Other` where the path is too long.
+    /// `Other` if the path is too long.
     pub fn of(rt: &'a R, path: &'a str) -> Result<SystemFolder<'a, R>, Cause>
         ensures { IfErr result IsOfSystem }
     {

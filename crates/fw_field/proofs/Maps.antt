@@ -58,7 +58,7 @@ mark_keeps f key n c m had = campaigns (same_campaign c key) refl
     campaigns true is = meters (nat_eq m n) (same_campaign_is c key is)
     campaigns false is = had
 
--- where there were no others, there are none after the same mark
+-- if there were no others, there are none after the same mark
 pub mark_follows : (f g : Done) (key : Campaign) (n : ℕ) (c : Campaign) (m : ℕ) → (f c m ≡ true → g c m ≡ true) → marked f key n c m ≡ true → marked g key n c m ≡ true
 mark_follows f g key n c m goes = campaigns (same_campaign c key) refl
   where

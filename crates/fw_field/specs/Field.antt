@@ -35,7 +35,7 @@ with_daemon f number daemon = record f { meters = put nat_eq f.meters number (So
 abbrev pub with_leader : Field → ℕ → Leader → Field
 with_leader f number leader = record f { heads = put nat_eq f.heads number (Some leader) }
 
--- A daemon has this meter. Its store gives what was written, and no call of it fails. Where the daemon is killed, moves say what is left.
+-- A daemon has this meter. Its store gives what was written, and no call of it fails. If the daemon is killed, moves say what is left.
 pub record Has (daemon : Daemon) (meter : Meter) : Type 0 where
   pub meter_is : daemon.state.meter ≡ meter
   pub honest : IsTrue daemon.state.honest

@@ -97,7 +97,7 @@ LeadingIsMoves =
     → Leading start steps now → CameToHead f number start steps
     → (new : Field) × MovesLead addresses f (moves_of number steps) new × (new.heads number ≡ Some now) × DoesAll number start steps new
 
--- in a field that moves lead to, such a head end reports a row as done only where it is done safely in the field that it leads to
+-- in a field that moves lead to, such a head end reports a row as done only if it is done safely in the field that it leads to
 abbrev pub ToldIsTrue : Type 0
 ToldIsTrue =
     (addresses : ℕ → List SocketAddr) (beginning f : Field) (moves : List Move) (number : ℕ) (start now : Leader) (steps : List Step)

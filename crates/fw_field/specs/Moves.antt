@@ -67,7 +67,7 @@ TakesAs old from datagram reply activates new =
     (MayAsk old.heads from × IsServed old datagram reply activates new)
     ⊎ ((activates ≡ None) × (IsUnserved old from datagram reply new ⊎ IsStrange old from reply new))
 
--- A datagram came. Where it came from an address that may ask, it is of the head end `head`, and the reply is sent on that link.
+-- A datagram came. If it came from an address that may ask, it is of the head end `head`, and the reply is sent on that link.
 pub record HearsAt (addresses : ℕ → List SocketAddr) (old : Field) (number : ℕ) (new : Field) : Type 0 where
   pub before : Daemon
   pub after : Daemon

@@ -47,7 +47,7 @@ pub none_of : (k : ℕ) (es : Rows) → AllByRecursion (λ y. nat_eq k y ≡ fal
 none_of k [] all = refl
 none_of k (entry ∷ es) all = cond-false (nat_eq k entry.0) (Some entry.1) (lookup (nat_eq k) es) all.0 ∙ none_of k es all.1
 
--- where the meters differ, what is found after the first row isn't the first row's
+-- if the meters differ, what is found after the first row isn't the first row's
 pub behind : (entry : ℕ × Row) (es : Rows) (m : ℕ) (row : Row) → IsDistinct nat_eq (keys_of (entry ∷ es)) → row_of es m ≡ Some row → nat_eq m entry.0 ≡ false
 behind entry es m row once found =
     false_from_ne_true (nat_eq m entry.0) (λ same.
@@ -164,7 +164,7 @@ live_test s e = absurd (false≢true e)
 abbrev has_at : Rows → ℕ → ℕ → Bool
 has_at es serial m = is_row_in serial (row_of es m)
 
--- where each live row has its own, so does a meter whose state is live
+-- if each live row has its own, so does a meter whose state is live
 row_there : (es : Rows) (serial : ℕ) (rows : List book_row.Row) (m : ℕ) → has_rows es serial rows ≡ true → state_of rows m ≡ Some Live → has_at es serial m ≡ true
 row_there es serial [] m all live = absurd (none_live live)
 row_there es serial (row ∷ rows) m all live =

@@ -33,7 +33,7 @@ known : (C : Cuts) (E : Ends) (g : Partition) (k : List Bool) (b : Bool) → C g
 known C E g k true cut all = cut
 known C E g k false cut all = (cut, all)
 
--- where its fact holds, each row of a list leads to such a step
+-- if its fact holds, each row of a list leads to such a step
 abbrev RowsHold : Cuts → Ends → List ((Type 0) × Step) → Type 0
 RowsHold C E [] = Unit {0}
 RowsHold C E (row ∷ rows) = (row.0 → StepHolds C E row.1) × RowsHold C E rows
@@ -142,7 +142,7 @@ own_news m k n o size stage told same_meter same_name is own =
     let R : RowNews → Type 0 = λ x. IsOwnNews m n x in
     subst Q same_name (subst P same_meter (subst R (sym is) (own_at m n size stage own)))
 
--- ---- what leads somewhere from a stage, where it is known which
+-- ---- what leads somewhere from a stage, if it is known which
 
 pub at_stage : (n : Name) (size : ℕ) (stage : Stage) {other : Stage} (h : Heard) (step : Step) → stage ≡ other → Leads n size other h step → Leads n size stage h step
 at_stage n size stage h step same leads = subst (λ (s : Stage). Leads n size s h step) (sym same) leads

@@ -22,7 +22,7 @@ not_ended (Done claim) live = absurd live
 not_ended Failed live = absurd live
 not_ended stage live = refl
 
--- where no row ended, none is marked
+-- if no row ended, none is marked
 ends_none : (book : Contents) (rows : List Row) → AllByRecursion Going rows → with_ends book rows ≡ book
 ends_none book [] going = refl
 ends_none book (row ∷ rows) going =

@@ -65,7 +65,7 @@ is_live_row Done e = absurd (false≢true e)
 is_live_row Failed e = absurd (false≢true e)
 is_live_row Cancelled e = absurd (false≢true e)
 
--- where no meter stands twice, one that is live has the state
+-- if no meter stands twice, one that is live has the state
 live_state : (rows : List book_row.Row) (m : ℕ) → repeats (meters_of rows) ≡ false → is_live_in rows m ≡ true → state_of rows m ≡ Some Live
 live_state [] m once live = absurd (false≢true live)
 live_state (row ∷ rows) m once live =

@@ -49,7 +49,7 @@ DoneByClaim =
     → ¬ (phase_of old.stage ≡ phase.Done) → RowHears old datagram told new
     → (told ≡ news.Done claim) ↔ IsConfirmedBy old datagram claim
 
--- a meter is reported done exactly where its own answer claims what the campaign offers
+-- a meter is reported done exactly if its own answer claims what the campaign offers
 abbrev pub ReportedByClaim : Type 0
 ReportedByClaim =
     (old new : Head) (from : ℕ) (datagram : List ℕ) (told : News) (campaign : Campaign) (meter : ℕ)

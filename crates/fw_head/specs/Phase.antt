@@ -81,7 +81,7 @@ count g = block_count g.block_size g.size
 abbrev pub none_known : Partition → List Bool
 none_known g = replicate (count g) false
 
--- the stage of a row that knows these blocks: where none is missing, the meter is asked whether it has them all
+-- the stage of a row that knows these blocks: if none is missing, the meter is asked whether it has them all
 abbrev pub with_known : Partition → List Bool → Stage
 with_known g known = if first_missing known == length known then Check g else Blocks g known
 
@@ -130,7 +130,7 @@ otherwise (Confirm g) = Return g
 otherwise (Done claim) = Stay
 otherwise Failed = Stay
 
--- the first row whose fact holds, or the last step where none does
+-- the first row whose fact holds, or the last step if none does
 abbrev pub First : List ((Type 0) × Step) → Step → Step → Type 0
 First [] last step = step ≡ last
 First (row ∷ rows) last step = (row.0 × (step ≡ row.1)) ⊎ ((¬ row.0) × First rows last step)

@@ -138,7 +138,7 @@ abbrev pub confirm_first : Stage → Stage
 confirm_first (Start g) = Confirm g
 confirm_first stage = stage
 
--- So it is with a row that asks first, except that it doesn't start before it has asked which image runs. Where that isn't its own, it
+-- So it is with a row that asks first, except that it doesn't start before it has asked which image runs. If that isn't its own, it
 -- asks which blocks the meter has, which is no return, and then it has asked.
 abbrev pub asked_first : Row → Step → Row
 asked_first row (Move stage) = moved row (confirm_first stage)
@@ -180,6 +180,6 @@ pub record TakesList (row : Row) (datagram : List ℕ) : Type 0 where
   pub takes : Takes row.client datagram heard client
   pub wants : TakesMemory row.stage heard
 
--- A row may take memory for a datagram only where its client may, or for such a list.
+-- A row may take memory for a datagram only if its client may, or for such a list.
 abbrev pub RowMayWant : Row → List ℕ → Type 0
 RowMayWant row datagram = MayCarryData datagram ⊎ TakesList row datagram

@@ -100,7 +100,7 @@ fn datagram(alloc: Global, client: &mut Client, ask: &Ask<'_>) -> Result<Vec<u8>
     }
 }
 
-/// The bytes of a block of the image, none where there is no such block.
+/// The bytes of a block of the image, none if there is no such block.
 fn block(image: &[u8], geometry: Geometry, number: u32) -> &[u8]
     ensures cut { result.now ≡ cut geometry.block_size image.now number }
     ensures fits { length result.now ≤ 1024 }

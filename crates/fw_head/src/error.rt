@@ -7,7 +7,7 @@ use std::alloc::AllocError;
 use std::fmt;
 use thiserror::Error;
 
-/// Why parts were not put together. Where both would apply, the first comes.
+/// Why parts were not put together. If both would apply, the first comes.
 #[derive(Clone, Copy, Debug, Error)]
 pub enum PutError {
     /// The rows are not those that are live in the book, each once, for the image that their campaign offers.

@@ -29,7 +29,7 @@ pub struct HeadCore {
     rows: Rows,
 }
 
-// Written out: where a head end is let go, that is one call, and none of its parts is looked into.
+// Written out, so that letting go of it is one call in a proof. A derived `Drop` is unfolded there field by field, which takes minutes.
 impl Drop for HeadCore {
     fn drop(self) {
         let HeadCore {
@@ -79,7 +79,7 @@ impl HeadCore {
     ///
     /// # Errors
     ///
-    /// `OutOfMemory` alone, and only where a campaign of the book has a live row. The book is lost.
+    /// `OutOfMemory` alone, and only if a campaign of the book has a live row. The book is lost.
     pub fn of_book(alloc: Global, book: Book, width: Width) -> Result<HeadCore, OutOfMemory>
         ensures begun { IfOk result (BeginsWith book width) }
         ensures memory { OnErr result (has_live_row book ≡ true) }
@@ -155,12 +155,12 @@ impl HeadCore {
         Ok(())
     }
 
-    /// Hears a datagram that came from a meter. It changes nothing where the meter has no live row, or where it answers no ask of
+    /// Hears a datagram that came from a meter. It changes nothing if the meter has no live row, or if it answers no ask of
     /// that row.
     ///
     /// # Errors
     ///
-    /// `OutOfMemory` alone, and only where the meter has a live row that may take memory for the datagram. The head end is then as
+    /// `OutOfMemory` alone, and only if the meter has a live row that may take memory for the datagram. The head end is then as
     /// before.
     pub fn hear(
         &mut self,
@@ -169,7 +169,7 @@ impl HeadCore {
         datagram: &[u8],
     ) -> Result<News, OutOfMemory>
         ensures heard { IfOk result (λ told. HeadHears self.old from datagram.now told self.new) }
-        // A meter is reported done exactly where its own answer claims what the campaign offers.
+        // A meter is reported done exactly if its own answer claims what the campaign offers.
         ensures done { IfOk result (λ told. (campaign : Campaign) (meter : ℕ) → (told ≡ News.Done campaign meter)
             ↔ ((meter ≡ from) × IsDoneBy self.old meter datagram.now campaign)) }
         ensures same { OnErr result (self.new ≡ self.old) }
@@ -208,7 +208,7 @@ impl HeadCore {
         })
     }
 
-    /// Whether a meter has a live row. Where it has none, a tick sends it nothing and takes no memory.
+    /// Whether a meter has a live row. If it has none, a tick sends it nothing and takes no memory.
     pub fn has_row(&self, meter: MeterId) -> bool
         ensures value { result ≡ is_some (row_of self.now.rows meter) }
         // A live row has not ended.
@@ -227,11 +227,11 @@ impl HeadCore {
         }
     }
 
-    /// Makes the datagrams that are sent to a meter now: none where it has no live row.
+    /// Makes the datagrams that are sent to a meter now: none if it has no live row.
     ///
     /// # Errors
     ///
-    /// `OutOfMemory` alone, and only where the meter has a live row. The head end is then as before.
+    /// `OutOfMemory` alone, and only if the meter has a live row. The head end is then as before.
     pub fn tick(&mut self, alloc: Global, meter: MeterId) -> Result<Vec<Vec<u8>>, OutOfMemory>
         ensures sent { IfOk result (λ sent. bytes_of sent.items ≡ sends_to self.old meter) }
         // Each is one that a head end of this book may send.
@@ -290,13 +290,13 @@ impl HeadCore {
     }
 
     /// Puts a head end together from its book, its width and the live rows of the book. Those that have ended are marked in the
-    /// book, done or failed, and the others are its live rows. The cost of each row is that of its campaign's rows; where memory
+    /// book, done or failed, and the others are its live rows. The cost of each row is that of its campaign's rows; if memory
     /// is refused, that of all rows.
     ///
     /// # Errors
     ///
-    /// `WrongRows` where the rows are not those that are live in the book, each once and in any order, for the image that their
-    /// campaign offers. Otherwise `OutOfMemory` alone, and only where there are rows. The parts are lost.
+    /// `WrongRows` if the rows are not those that are live in the book, each once and in any order, for the image that their
+    /// campaign offers. Otherwise `OutOfMemory` alone, and only if there are rows. The parts are lost.
     pub fn put_rows(
         alloc: Global,
         book: Book,

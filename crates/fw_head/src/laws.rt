@@ -14,14 +14,14 @@ pub fn row_keeps_goal()
     ensures { RowKeepsGoal }
 {}
 
-/// A row becomes done exactly where it waits in `Confirm` and the datagram is its meter's claim under the row's own name.
+/// A row becomes done exactly if it waits in `Confirm` and the datagram is its meter's claim under the row's own name.
 pub fn done_by_claim()
     ensures { DoneByClaim }
 {
     fw_client::laws::only_claimed();
 }
 
-/// Whatever a head end hears, it reports a meter as done exactly where that meter's own answer claims what the campaign offers.
+/// Whatever a head end hears, it reports a meter as done exactly if that meter's own answer claims what the campaign offers.
 pub fn reported_by_claim()
     ensures { ReportedByClaim }
 {

@@ -21,7 +21,7 @@ fn are_live_rows(book: &Book, rows: &[RowCore]) -> bool
     are_of_book(book, rows) && !repeats(rows) && has_each(rows, book)
 }
 
-/// Why rows are refused that no memory was had for: `OutOfMemory` where they are the live ones of the book, and otherwise
+/// Why rows are refused that no memory was had for: `OutOfMemory` if they are the live ones of the book, and otherwise
 /// `WrongRows`.
 pub(crate) fn refusal(book: &Book, rows: &[RowCore]) -> PutError
     requires { rows.now ≢ [] }

@@ -182,7 +182,7 @@ impl RowCore {
         width: Width,
     ) -> Result<Vec<Vec<u8>>, OutOfMemory>
         ensures sent { IfOk result (λ sent. bytes_of sent.items ≡ sends self.old image.now width) }
-        // Where the image has the row's size, each datagram is one that a head end may send.
+        // If the image has the row's size, each datagram is one that a head end may send.
         ensures permitted { IfOk result (λ sent. length image.now ≡ self.old.size
             → All (IsPermitted self.old.name image.now) (bytes_of sent.items)) }
         ensures most { IfOk result (λ sent. length sent.items ≤ 15) }
@@ -242,7 +242,7 @@ impl RowCore {
     ///
     /// # Errors
     ///
-    /// `OutOfMemory` alone, and only where the client may take memory, or where the answer shows which blocks the meter has. The row
+    /// `OutOfMemory` alone, and only if the client may take memory, or if the answer shows which blocks the meter has. The row
     /// is then as before.
     pub fn hear(&mut self, alloc: Global, datagram: &[u8]) -> Result<RowNews, OutOfMemory>
         ensures heard { IfOk result (λ told. RowHears self.old datagram.now told self.new) }
@@ -275,7 +275,7 @@ impl RowCore {
         }
     }
 
-    /// Goes where an answer leads, and asks which image runs before it starts. Where that isn't the row's own, asks which blocks the
+    /// Goes where an answer leads, and asks which image runs before it starts. If that isn't the row's own, asks which blocks the
     /// meter has.
     fn ask_first(&mut self, step: Step)
         requires own { IsOwnStep self.old.client.meter self.old.name self.old.size step }

@@ -39,7 +39,7 @@ pub(crate) struct Rows {
     rows: IndexMap<u32, RowCore>,
 }
 
-// Written out: where rows are let go, that is one call, and none of their parts is looked into.
+// Written out, so that letting go of it is one call in a proof. A derived `Drop` is unfolded there field by field, which takes minutes.
 impl Drop for Rows {
     fn drop(self) {
         let Rows { rows: _ } = self;
@@ -82,7 +82,7 @@ impl Rows {
     ///
     /// # Errors
     ///
-    /// `OutOfMemory` alone, and only where a campaign of the book has a live row.
+    /// `OutOfMemory` alone, and only if a campaign of the book has a live row.
     pub(crate) fn live_in(alloc: Global, book: &Book) -> Result<Rows, OutOfMemory>
         ensures is_book { IsBook book.now }
         ensures rows { IfOk result (λ live. live.rows.entries ≡ live_rows book.now.head book.now.campaigns) }
@@ -105,7 +105,7 @@ impl Rows {
     ///
     /// # Errors
     ///
-    /// `OutOfMemory` alone, and only where one of the rows is live.
+    /// `OutOfMemory` alone, and only if one of the rows is live.
     fn add_live(
         &mut self,
         name: ImageName,
@@ -140,7 +140,7 @@ impl Rows {
     ///
     /// # Errors
     ///
-    /// `WrongRows` where they are not. Otherwise `OutOfMemory` alone, and only where there are rows.
+    /// `WrongRows` if they are not. Otherwise `OutOfMemory` alone, and only if there are rows.
     pub(crate) fn of_book(alloc: Global, book: &Book, rows: Vec<RowCore>) -> Result<Rows, PutError>
         ensures rows { IfOk result (λ live. live.rows.entries ≡ by_meter rows.items) }
         ensures live { OnOk result (AreLiveRows book.now rows.items) }
@@ -237,7 +237,7 @@ impl Rows {
         self.rows.reserve(more)
     }
 
-    /// The datagrams that a meter's row sends now, none where it has no row.
+    /// The datagrams that a meter's row sends now, none if it has no row.
     pub(crate) fn tick(
         &mut self,
         alloc: Global,
@@ -260,7 +260,7 @@ impl Rows {
         }
     }
 
-    /// A meter's row hears a datagram: nothing where the meter has no row.
+    /// A meter's row hears a datagram: nothing if the meter has no row.
     pub(crate) fn hear(
         &mut self,
         alloc: Global,

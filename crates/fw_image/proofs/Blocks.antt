@@ -84,7 +84,7 @@ marked_at marks i k within = grind (arith, nat_tests, common_steps)
 pub mark_more : (marks new : List Bool) (i : ℕ) → i < length marks → new ≡ slice_set marks i true → (k : ℕ) → has new k ≡ ((k == i) || has marks k)
 mark_more marks new i within e k = ap (λ (m : List Bool). has m k) e ∙ marked_at marks i k within
 
--- and the same marks, where it is there
+-- and the same marks, if it is there
 again_at : (i k : ℕ) (mark was : Bool) → was ≡ true → (k ≡ i → mark ≡ was) → mark ≡ ((k == i) || mark)
 again_at i k mark was marked same = grind (arith, nat_tests)
 
@@ -94,7 +94,7 @@ mark_again marks i marked k = again_at i k (has marks k) (has marks i) marked (a
 put_at : (q i n : ℕ) (old new : Bool) (was is v : List ℕ) → new ≡ ((q == i) || old) → i < n → (q ≡ i → is ≡ v) → (q ≢ i → is ≡ was) → cond (nat_lt q n && new) (Some is) None ≡ cond (q == i) (Some v) (cond (nat_lt q n && old) (Some was) None)
 put_at q i n old new was is v marked below there elsewhere = grind (arith, nat_tests)
 
--- where it is marked, it is there
+-- if it is marked, it is there
 pub blocks_put : (b i n : ℕ) (old new : List Bool) (bytes after v : List ℕ) → i < n → ((k : ℕ) → has new k ≡ ((k == i) || has old k)) → cut b after i ≡ v → ((k : ℕ) → k ≢ i → cut b after k ≡ cut b bytes k)
     → blocks_below b new after n ≡ insert (blocks_below b old bytes n) i v
 blocks_put b i n old new bytes after v below marked there elsewhere =
@@ -106,7 +106,7 @@ blocks_put b i n old new bytes after v below marked there elsewhere =
 kept_at : (q i n : ℕ) (mark old : Bool) (was is : List ℕ) → (q ≡ i → mark ≡ old) → old ≡ false → (q ≢ i → is ≡ was) → cond (nat_lt q n && mark) (Some is) None ≡ cond (nat_lt q n && mark) (Some was) None
 kept_at q i n mark old was is same unmarked elsewhere = grind (arith, nat_tests)
 
--- where it is not marked, it is not there
+-- if it is not marked, it is not there
 pub blocks_kept : (b i n : ℕ) (marks : List Bool) (bytes after : List ℕ) → has marks i ≡ false → ((k : ℕ) → k ≢ i → cut b after k ≡ cut b bytes k) → blocks_below b marks after n ≡ blocks_below b marks bytes n
 blocks_kept b i n marks bytes after unmarked elsewhere =
     same_map nat_cmp_total nat_cmp-IsAntisymmetric (blocks_below b marks after n) (blocks_below b marks bytes n) (λ q.
@@ -119,7 +119,7 @@ blocks_kept b i n marks bytes after unmarked elsewhere =
 has_mark : (i n : ℕ) (mark : Bool) (c : List ℕ) → i < n → is_some (cond (nat_lt i n && mark) (Some c) None) ≡ mark
 has_mark i n mark c below = grind (arith, nat_tests)
 
--- a block below the count is there where it is marked
+-- a block below the count is there if it is marked
 pub is_some-get : (b : ℕ) (marks : List Bool) (bytes : List ℕ) (count n : ℕ) → n < count → is_some (get (blocks_below b marks bytes count) n) ≡ has marks n
 is_some-get b marks bytes count n below = ap is_some (get-blocks b marks bytes count n) ∙ has_mark n count (has marks n) (cut b bytes n) below
 
@@ -152,7 +152,7 @@ joined_below b bytes cells (suc n) there =
     ∙ ap (λ (x : List ℕ). flat_map (cut b bytes) (range_with_len 0 n) ++ x) (append-nil (cut b bytes n)) in
     rw (front, there n (omega arith)) (ap Some (sym split))
 
--- where all are marked, the blocks are the bytes
+-- if all are marked, the blocks are the bytes
 pub joined_all : CutsJoin → (b : ℕ) (marks : List Bool) (bytes : List ℕ) (n : ℕ) → 1 ≤ b → n ≡ block_count b (length bytes) → ((i : ℕ) → i < n → has marks i ≡ true) → joined (blocks_below b marks bytes n) n ≡ Some bytes
 joined_all cuts b marks bytes n some count complete =
     joined_below b bytes (blocks_below b marks bytes n) n (λ k h. get_marked b marks bytes n k h (complete k h))

@@ -208,7 +208,7 @@ bytes_with capacity h d goal is has =
     ap (λ (g : Option Goal). joined (cells_of h.block_size h.marks spare h.goal) (goal_count h.block_size g)) (goal_again h.status h.goal is.goal_by_status)
     ∙ ap (λ (g : Option Goal). joined (cells_of h.block_size h.marks spare g) (goal_count h.block_size g)) has
 
--- where all blocks are marked, they are those that the spare slot begins with
+-- if all blocks are marked, they are those that the spare slot begins with
 pub whole_bytes : CutsJoin → (capacity : ℕ) (h : Header) (d : Device) (goal : Goal) → IsHeader capacity h → ((slot : Slot) → length (slot_bytes d slot) ≡ capacity) → h.goal ≡ Some goal
     → ((i : ℕ) → i < block_count h.block_size goal.size → has h.marks i ≡ true) → goal_bytes (meter_of capacity h d) ≡ Some (take goal.size (slot_bytes d (other h.running_slot)))
 whole_bytes cuts capacity h d goal is sized has complete =
@@ -220,7 +220,7 @@ whole_bytes cuts capacity h d goal is sized has complete =
     bytes_with capacity h d goal is has
     ∙ joined_all cuts h.block_size h.marks (take goal.size spare) (block_count h.block_size goal.size) is.block_size_begins (ap (block_count h.block_size) (sym size)) complete
 
--- where one is not, it is missing
+-- if one is not, it is missing
 pub missing_bytes : (capacity : ℕ) (h : Header) (d : Device) (goal : Goal) (i : ℕ) → IsHeader capacity h → h.goal ≡ Some goal
     → i < block_count h.block_size goal.size → has h.marks i ≡ false → goal_bytes (meter_of capacity h d) ≡ None
 missing_bytes capacity h d goal i is has below unmarked =

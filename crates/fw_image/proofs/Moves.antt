@@ -71,7 +71,7 @@ seen_of s = seen s.honest s.capacity s.device
 abbrev pub meter_in : Known → Header → Option Progress → Meter
 meter_in s h digesting = meter_at s.capacity h digesting (seen_of s)
 
--- what is left where the store is honest, its fuse is known, and one of its calls failed
+-- what is left if the store is honest, its fuse is known, and one of its calls failed
 abbrev IsLeft : Known → Meter → Operation → OperationOutcome → Meter → Type 0
 IsLeft s m operation outcome m' =
     IsTrue s.honest → (set : Fuse) → s.fuse ≡ Some set → is_operation_faultless outcome ≡ false → m' ≡ left_by_fault set.torn m operation

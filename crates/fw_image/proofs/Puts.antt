@@ -323,7 +323,7 @@ served_block m goal number value on phase is =
     let admits : Admits m (receiving goal) (block number value) = is in
     (on, subst (λ (p : Phase). Admits m p (block number value)) (sym phase) admits)
 
--- a block takes a second call where it is not marked
+-- a block takes a second call if it is not marked
 pub calls_put : (capacity : ℕ) (h : Header) (d : Device) (number start : ℕ) (value : List ℕ) → IsPlace h number value start
     → calls_for (meter_of capacity h d) (block number value) ≡ cond (has h.marks number) 1 2
 calls_put capacity h d number start value place = ap (λ (b : Bool). cond b 1 2) (there_by_mark capacity h d number start value place)

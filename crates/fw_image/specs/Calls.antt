@@ -8,7 +8,7 @@ use Rattle.fw_image.specs.Meter.{Meter, Phase, verifying, verified, goal_of, goa
 use Rattle.fw_image.specs.Step.{Operation, enable, initiate, block, verify, activate, with_cell}
 
 -- An operation that no line refuses: one write of the header. For a block, first a write of its bytes, and the header only for a mark that
--- is new. For a verify, first a read of the goal, and the header only where that is all of it.
+-- is new. For a verify, first a read of the goal, and the header only if that is all of it.
 abbrev pub calls_for : Meter → Operation → ℕ
 calls_for m (enable b) = 1
 calls_for m (initiate name size) = 1
@@ -36,7 +36,7 @@ verified_size phase = 0
 abbrev pub opening_calls : Meter → ℕ
 opening_calls m = 1 + slice_count (length m.running.bytes) + slice_count (verified_size m.phase)
 
--- the calls that make a header one of version 2: a write of it, where it is not
+-- the calls that make a header one of version 2: a write of it, if it is not
 abbrev pub migration_calls : Meter → ℕ
 migration_calls m = if m.limit == max_blocks then 0 else 1
 

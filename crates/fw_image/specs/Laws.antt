@@ -22,7 +22,7 @@ FreshIsMeter = (version : HeaderVersion) (block_size capacity : ℕ) (factory : 
     → IsMeterOf capacity (fresh_device version block_size capacity factory) (fresh_meter version block_size capacity factory)
     × IsTrusted (fresh_meter version block_size capacity factory)
 
--- over an honest store, where no call of it failed, a meter and an operation determine what is returned and the meter afterwards
+-- over an honest store, if no call of it failed, a meter and an operation determine what is returned and the meter afterwards
 abbrev pub OneStep : Type 0
 OneStep = (old new other : Meter) (operation : Operation) (a b : OperationOutcome) → Step true old operation a new → Step true old operation b other
     → a ≢ refused Fault → b ≢ refused Fault → (a ≡ b) × (new ≡ other)

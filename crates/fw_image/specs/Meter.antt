@@ -62,16 +62,16 @@ goal_of (verified goal) = Some goal
 goal_of (spoilt goal) = Some goal
 goal_of switched = None
 
--- how many bytes the goal has, 0 where there is none
+-- how many bytes the goal has, 0 if there is none
 abbrev pub goal_size : Option Goal → ℕ
 goal_size None = 0
 goal_size (Some goal) = goal.size
 
--- how many blocks the goal has, 0 where there is none
+-- how many blocks the goal has, 0 if there is none
 abbrev pub count_of : Meter → ℕ
 count_of m = goal_count m.block_size (goal_of m.phase)
 
--- two parts, where both are there
+-- two parts, if both are there
 abbrev pub both : Option (List ℕ) → Option (List ℕ) → Option (List ℕ)
 both (Some front) (Some cell) = Some (front ++ cell)
 both (Some front) None = None
@@ -87,7 +87,7 @@ abbrev pub marks_of : Cells → ℕ → List Bool
 marks_of cells zero = []
 marks_of cells (suc n) = marks_of cells n ++ is_some (get cells n) ∷ []
 
--- the goal's bytes, where no block is missing
+-- the goal's bytes, if no block is missing
 abbrev pub goal_bytes : Meter → Option (List ℕ)
 goal_bytes m = joined m.cells (count_of m)
 

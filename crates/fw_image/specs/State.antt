@@ -21,7 +21,7 @@ pub record State : Type 0 where
   pub sound : Bool
   -- how often the store has failed
   pub faults : ℕ
-  -- how many calls of the store succeed before all fail, and the byte that a failing write leaves, where that is known
+  -- how many calls of the store succeed before all fail, and the byte that a failing write leaves, if that is known
   pub fuse : Option Fuse
 
 -- what every call keeps, whatever it answers
@@ -37,8 +37,8 @@ pub record Counts (old new : State) (faultless : Bool) : Type 0 where
   pub never : IsTrue old.sound → IsTrue faultless
 
 -- From old, a state makes the step of this operation with this outcome and becomes new. What a line refuses makes no call of the store.
--- Any other operation makes its calls, and one that fails is the last of them. A fault is reported just where one failed. What it left is
--- known where the store is honest and its fuse is known.
+-- Any other operation makes its calls, and one that fails is the last of them. A fault is reported just if one failed. What it left is
+-- known if the store is honest and its fuse is known.
 pub record Makes (old : State) (operation : Operation) (outcome : OperationOutcome) (new : State) : Type 0 where
   pub step : Step old.honest old.meter operation outcome new.meter
   pub untouched : (r : Refusal) → Refuses old.meter operation r → new ≡ old
@@ -48,7 +48,7 @@ pub record Makes (old : State) (operation : Operation) (outcome : OperationOutco
   pub left : IsTrue old.honest → (set : Fuse) → old.fuse ≡ Some set → is_operation_faultless outcome ≡ false
       → new.meter ≡ left_by_fault set.torn old.meter operation
 
--- From old, a state takes a turn and becomes new. Where no verification goes on, nothing is done. A turn makes its calls of the store, and
+-- From old, a state takes a turn and becomes new. If no verification goes on, nothing is done. A turn makes its calls of the store, and
 -- one that fails is the last of them.
 pub record Turns (old new : State) : Type 0 where
   pub faultless : Bool

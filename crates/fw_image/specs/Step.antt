@@ -101,7 +101,7 @@ abbrev pub switched_to : Meter → Phase → Option (List ℕ) → Meter
 switched_to m (verified goal) (Some bytes) = record m { phase = switched; cells = empty; running = record { name = goal.name; bytes = bytes } }
 switched_to m phase bytes = m
 
--- The meter afterwards shows what this one does, and is this one where the store is honest.
+-- The meter afterwards shows what this one does, and is this one if the store is honest.
 pub record Leaves (honest : Bool) (this new : Meter) : Type 0 where
   pub shows : shown_of new ≡ shown_of this
   pub is : IsTrue honest → new ≡ this

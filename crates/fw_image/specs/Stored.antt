@@ -57,7 +57,7 @@ meter_of capacity h d = record {
   running = record { name = h.running_name; bytes = take h.running_size (slot_bytes d h.running_slot) };
 }
 
--- what is known of a device: its bytes where the store is honest, and nothing otherwise, for which zeros stand
+-- what is known of a device: its bytes if the store is honest, and nothing otherwise, for which zeros stand
 abbrev pub seen : Bool → ℕ → Device → Device
 seen true capacity d = d
 seen false capacity d = record { head = []; first = replicate capacity 0; second = replicate capacity 0 }
@@ -83,7 +83,7 @@ state_of known h digesting =
       fuse = known.fuse;
     }
 
--- The header is one that a store can have. Where the store is honest it stands there, and the images have their names' digests.
+-- The header is one that a store can have. If the store is honest it stands there, and the images have their names' digests.
 pub record IsHeld (known : Known) (h : Header) : Type 0 where
   pub valid : IsHeader known.capacity h
   pub stored : IsTrue known.honest → header_bytes h ≡ known.device.head
@@ -118,7 +118,7 @@ pub record IsMeterOf (capacity : ℕ) (d : Device) (m : Meter) : Type 0 where
   pub spelled : header_bytes header ≡ d.head
   pub means : m ≡ meter_of capacity header d
 
--- A store holds a state: they are as honest and as large as each other. Where the store is honest, its device is the meter, and the
+-- A store holds a state: they are as honest and as large as each other. If the store is honest, its device is the meter, and the
 -- images of that have the digests of their names.
 pub record Holds (known : Known) (state : State) : Type 0 where
   pub honesty : state.honest ≡ known.honest
@@ -128,7 +128,7 @@ pub record Holds (known : Known) (state : State) : Type 0 where
   pub trusted : IsTrue known.honest → IsTrusted state.meter
 
 -- A store is opened, and its header is one of version 2 from then on. All else of the meter that it was is kept, and the device stays the
--- same where its header was one of version 2 before. No call of the store failed.
+-- same if its header was one of version 2 before. No call of the store failed.
 pub record Opens (known : Known) (state : State) : Type 0 where
   pub honesty : state.honest ≡ known.honest
   pub was : Meter
@@ -141,7 +141,7 @@ pub record Opens (known : Known) (state : State) : Type 0 where
   pub kept : IsTrue known.honest → was.limit ≡ max_blocks → state.device ≡ known.device
   pub spends : Spends (restart_calls was) known.fuse state.fuse true
 
--- Why a store was not opened. Where it is honest: its header is none that it can have; or it is a meter, and an image doesn't have the
+-- Why a store was not opened. If it is honest: its header is none that it can have; or it is a meter, and an image doesn't have the
 -- digest of its name.
 abbrev pub IsCause : OpenError → ℕ → Device → Type 0
 IsCause Fault capacity d = Unit {0}
@@ -162,7 +162,7 @@ IsFoundIn BadHeader capacity d calls = calls ≡ 1
 IsFoundIn BadImage capacity d calls =
     (m : Meter) × IsMeterOf capacity d m × ((calls ≡ 1 + slice_count (length m.running.bytes)) ⊎ (calls ≡ opening_calls m))
 
--- A store was not opened for this reason, and is returned. The reason is a fault just where a call of it failed, and that call is the last.
+-- A store was not opened for this reason, and is returned. The reason is a fault just if a call of it failed, and that call is the last.
 pub record Refused (known : Known) (error : OpenError) (back : Known) : Type 0 where
   pub reason : IsTrue known.honest → IsCause error known.capacity known.device
   pub counted : back.faults ≡ count_after (is_opening_faultless error) known.faults

@@ -265,7 +265,7 @@ impl<S: ImageStore> Held<S> {
         }
     }
 
-    /// Opens a store, and then writes its header in version 2 where it is one of version 1. A store that is refused is returned, and
+    /// Opens a store, and then writes its header in version 2 if it is one of version 1. A store that is refused is returned, and
     /// its device is as it was.
     #[inline(never)]
     pub(crate) fn open_migrated(mut store: S) -> Result<Held<S>, (OpenError, S)>
@@ -353,7 +353,7 @@ impl<S: ImageStore> Held<S> {
         self.header.block_size
     }
 
-    /// How many blocks the goal has, 0 where there is none.
+    /// How many blocks the goal has, 0 if there is none.
     pub(crate) fn block_count(&self) -> u32
         ensures value { result ≡ count_of self.now.meter }
         ensures most { result ≤ max_blocks }
@@ -662,7 +662,7 @@ fn judged(genuine: bool) -> StoredStatus
     }
 }
 
-/// Writes a header that is held in version 2, where it is one of version 1, and keeps it where that succeeded.
+/// Writes a header that is held in version 2, if it is one of version 1, and keeps it where that succeeded.
 fn migrate<S: ImageStore>(store: &mut S, header: &mut Header) -> Result<(), StoreFault>
     requires { IsHeld (S.known store.old) header.old }
     ensures done { OnOk result (header.new ≡ header_migrated header.old) }

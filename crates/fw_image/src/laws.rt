@@ -16,7 +16,7 @@ pub fn fresh_is_meter()
     fw_store::laws::fresh_is_header();
 }
 
-/// Over an honest store, where no call of it failed, a meter and an operation determine the outcome and the meter afterwards.
+/// Over an honest store, if no call of it failed, a meter and an operation determine the outcome and the meter afterwards.
 pub fn one_step()
     ensures { OneStep }
 {}

@@ -53,7 +53,7 @@ pub enum Phase<S: ImageStore> {
 }
 
 /// Opens a store: reads its header and checks it, and checks that the image that runs has the digest of its name, and so
-/// has the goal where it was verified. Then the header is written in version 2, with all else kept, where it is one of
+/// has the goal where it was verified. Then the header is written in version 2, with all else kept, if it is one of
 /// version 1. No memory is taken.
 ///
 /// # Errors
@@ -74,7 +74,7 @@ pub fn open_store<S: ImageStore>(store: S) -> Result<Phase<S>, (OpenError, S)>
     ensures again { (meter : Meter) → IsMeterOf (S.known store).capacity (S.known store).device meter → IsTrusted meter
         → IsTrue (S.known store).honest → IsTrue (S.known store).sound → IsOkAnd result (λ phase. (state_in phase).meter ≡ migrated meter) }
 
-    // An honest store that holds such a meter is refused only where one of these calls fails.
+    // An honest store that holds such a meter is refused only if one of these calls fails.
     ensures cut { (meter : Meter) → IsMeterOf (S.known store).capacity (S.known store).device meter → IsTrusted meter
         → IsTrue (S.known store).honest → IfErr result (λ e. Spends (restart_calls meter) (S.known store).fuse (S.known e.1).fuse false) }
 {
@@ -103,7 +103,7 @@ pub fn open_kept<S: ImageStore>(store: S) -> Result<Phase<S>, (OpenError, S)>
     ensures again { (meter : Meter) → IsMeterOf (S.known store).capacity (S.known store).device meter → IsTrusted meter
         → IsTrue (S.known store).honest → IsTrue (S.known store).sound → IsOkAnd result (λ phase. (state_in phase).meter ≡ meter) }
 
-    // An honest store that holds such a meter is refused only where one of these calls fails.
+    // An honest store that holds such a meter is refused only if one of these calls fails.
     ensures cut { (meter : Meter) → IsMeterOf (S.known store).capacity (S.known store).device meter → IsTrusted meter
         → IsTrue (S.known store).honest → IfErr result (λ e. Spends (opening_calls meter) (S.known store).fuse (S.known e.1).fuse false) }
 {
@@ -238,7 +238,7 @@ impl<S: ImageStore> Phase<S> {
         self.held().block_size()
     }
 
-    /// How many blocks the image has that is to be received, and 0 where there is none.
+    /// How many blocks the image has that is to be received, and 0 if there is none.
     pub fn block_count(&self) -> u32
         ensures value { result ≡ count_of (state_in self.now).meter }
         ensures most { result ≤ max_blocks }
@@ -254,7 +254,7 @@ impl<S: ImageStore> Phase<S> {
         self.held().marks()
     }
 
-    /// How many bytes the image has that was verified and is not yet activated, and 0 where there is none.
+    /// How many bytes the image has that was verified and is not yet activated, and 0 if there is none.
     pub fn verified_size(&self) -> u32
         ensures size { result ≡ verified_size (state_in self.now).meter.phase }
 
@@ -277,7 +277,7 @@ impl<S: ImageStore> Phase<S> {
         // Over an honest store the images have the digests of their names.
         ensures trusted { IsTrue (state_in self.now).honest → IsTrusted (state_in self.now).meter }
 
-        // It is over a store of its type: over one in memory it is honest, and sound where no fuse is set.
+        // It is over a store of its type: over one in memory it is honest, and sound if no fuse is set.
         ensures over { IsOver S.known (state_in self.now) }
     {
         self.held().view()
@@ -298,7 +298,7 @@ impl<S: ImageStore> Phase<S> {
     ///
     /// # Errors
     ///
-    /// `StoreFault` where the store failed. The slice may then have any bytes.
+    /// `StoreFault` if the store failed. The slice may then have any bytes.
     pub fn read_running(&mut self, out: &mut [u8]) -> Result<(), StoreFault>
         requires { length out.old ≡ length (state_in self.old).meter.running.bytes }
         ensures done { IsTrue (state_in self.old).honest → OnOk result (out.new ≡ (state_in self.old).meter.running.bytes) }

@@ -134,7 +134,7 @@ impl<S: ImageStore, P: Status> Transfer<S, P> {
         // Over an honest store the images have the digests of their names.
         ensures trusted { IsTrue self.now.honest → IsTrusted self.now.meter }
 
-        // It is over a store of its type: over one in memory it is honest, and sound where no fuse is set.
+        // It is over a store of its type: over one in memory it is honest, and sound if no fuse is set.
         ensures over { IsOver S.known self.now }
     {
         self.held.view()
@@ -144,7 +144,7 @@ impl<S: ImageStore, P: Status> Transfer<S, P> {
     ///
     /// # Errors
     ///
-    /// `StoreFault` where the store failed. The slice may then have any bytes.
+    /// `StoreFault` if the store failed. The slice may then have any bytes.
     pub fn read_running(&mut self, out: &mut [u8]) -> Result<(), StoreFault>
         requires { length out.old ≡ length self.old.meter.running.bytes }
         ensures done { IsTrue self.old.honest → OnOk result (out.new ≡ self.old.meter.running.bytes) }
@@ -209,7 +209,7 @@ impl<S: ImageStore> Receiving<S> {
         self.held.block(number, value)
     }
 
-    /// Reads the first slice of the image, 4,096 bytes, from the spare slot. Where that is the whole image, its digest is
+    /// Reads the first slice of the image, 4,096 bytes, from the spare slot. If that is the whole image, its digest is
     /// compared with that of its name, and the result noted by one write of the header. A larger image is verified from
     /// then on, a slice at each turn.
     ///
@@ -235,7 +235,7 @@ impl<S: ImageStore> Receiving<S> {
 
 impl<S: ImageStore> Verifying<S> {
     /// Reads the next slice of the image. After the last one the digest is compared with that of the image's name, and the result
-    /// noted by one write of the header: the image is verified then, or spoilt. Where the store failed, the verification is given up,
+    /// noted by one write of the header: the image is verified then, or spoilt. If the store failed, the verification is given up,
     /// and the image received as it is.
     pub fn turn(self) -> Phase<S>
         ensures turns { Turns self (state_in result) }

@@ -144,7 +144,7 @@ fit_push r vs later v fit size pushed is =
     let more : contents_of later ≡ contents_of vs ++ r ∷ [] = ap (λ (l : Vecs). contents_of l) pushed ∙ contents_of_push vs v ∙ ap (λ (x : List ℕ). contents_of vs ++ x ∷ []) is in
     subst (λ (l : List (List ℕ)). AreRecords l) (sym more) (are-append (contents_of vs) (r ∷ []) fit (size, tt))
 
--- where a record is read, a whole one stands first
+-- if a record is read, a whole one stands first
 pub first_record : (bytes rest r after : List ℕ) (read : List (List ℕ)) → AreRecords read → length r < 2 ^ 32 → bytes ≡ book_front read ++ rest → rest ≡ 1 ∷ (body r ++ after) → HasRecord bytes
 first_record bytes rest r after [] fit short is next = record { first = r; rest = after; short = short; split = is ∙ ap (λ (l : List ℕ). mark ++ l) next }
 first_record bytes rest r after (x ∷ xs) fit short is next = record {

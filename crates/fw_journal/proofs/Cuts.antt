@@ -80,7 +80,7 @@ module _ (done : List (List ℕ)) (end : ℕ) (ends : end ≡ length (book_front
         ∙ append_assoc (book_front done) (1 ∷ []) behind
         ∙ open_is
 
--- what is written after the gate, where something waits
+-- what is written after the gate, if something waits
 pub behind_is : (waiting : List (List ℕ)) (items : List ℕ) → 1 ≤ length (blocks waiting) → items ≡ blocks waiting ++ 0 ∷ [] → 1 ∷ drop 1 items ≡ blocks waiting ++ 0 ∷ []
 behind_is [] items some is = absurd (omega (arith, some))
 behind_is (w ∷ waiting) items some is = ap (λ (l : List ℕ). 1 ∷ drop 1 l) is

@@ -33,7 +33,7 @@ abbrev pub fated : Change → List ℕ → List ℕ → List ℕ
 fated (Write at size) fate old = cond (nat_lt (length old) at) old (splice old at (take size fate))
 fated (Shorten len) fate old = take (min len (length old) + length fate) old
 
--- the first fate, which is empty where there is none
+-- the first fate, which is empty if there is none
 abbrev pub first_fate : List (List ℕ) → List ℕ
 first_fate [] = []
 first_fate (fate ∷ fates) = fate

@@ -1,4 +1,4 @@
--- Public vocabulary: what a journal answers where its device failed, or its file can't be opened, begun or named.
+-- Public vocabulary: what a journal answers if its device failed, or its file can't be opened, begun or named.
 use Rattle.std.specs.Prelude.{◌≡◌, Some}
 use Rattle.fw_disk.specs.declared.cause.Cause.{Cause}
 use Rattle.fw_disk.specs.declared.cause.Cause.TheVariants.{Locked, Exists}

@@ -22,7 +22,7 @@ pub trait JournalDevice {
     /// Whether the device keeps what is written, as said below.
     ghost honest: { Self → Bool };
 
-    /// Whether no call fails, except where memory is refused.
+    /// Whether no call fails, except if memory is refused.
     ghost sound: { Self → Bool };
 
     /// The bytes that reads give.
@@ -41,7 +41,7 @@ pub trait JournalDevice {
     ///
     /// # Errors
     ///
-    /// `Fault` where the device failed.
+    /// `Fault` if the device failed.
     fn len(&mut self) -> Result<u64, DeviceError>
         ensures done { IsTrue (honest self.old) → IfOk result (λ n. n ≡ length (contents self.old)) }
         ensures same { IsTrue (honest self.old) → contents self.new ≡ contents self.old }
@@ -51,11 +51,11 @@ pub trait JournalDevice {
         ensures fault { IfErr result (λ e. e ≡ Fault) }
         ensures never { IsTrue (sound self.old) → ¬ IsErrOf result Fault };
 
-    /// Fills `out` with the bytes from `at` on. Where there are fewer of them, nothing is known of the result.
+    /// Fills `out` with the bytes from `at` on. If there are fewer of them, nothing is known of the result.
     ///
     /// # Errors
     ///
-    /// `Fault` where the device failed. `out` may then have any bytes.
+    /// `Fault` if the device failed. `out` may then have any bytes.
     fn read_at(&mut self, at: u64, out: &mut [u8]) -> Result<(), DeviceError>
         ensures done { IsTrue (honest self.old) → at + length out.old ≤ length (contents self.old)
             → OnOk result (out.new ≡ slice_range (contents self.old) at (at + length out.old)) }
@@ -66,11 +66,11 @@ pub trait JournalDevice {
         ensures fault { IfErr result (λ e. e ≡ Fault) }
         ensures never { IsTrue (sound self.old) → at + length out.old ≤ length (contents self.old) → ¬ IsErrOf result Fault };
 
-    /// Writes bytes over those from `at` on, and past the end. Where `at` is after the end, nothing is known of the result.
+    /// Writes bytes over those from `at` on, and past the end. If `at` is after the end, nothing is known of the result.
     ///
     /// # Errors
     ///
-    /// `Fault` where the device failed, `OutOfMemory` where it is one in memory. Any bytes may then stand in the range.
+    /// `Fault` if the device failed, `OutOfMemory` if it is one in memory. Any bytes may then stand in the range.
     fn write_at(&mut self, at: u64, bytes: &[u8]) -> Result<(), DeviceError>
         ensures done { IsTrue (honest self.old) → at ≤ length (contents self.old)
             → OnOk result (contents self.new ≡ splice (contents self.old) at bytes.now) }
@@ -80,11 +80,11 @@ pub trait JournalDevice {
         ensures kept { Keeps honest sound self.old self.new }
         ensures never { IsTrue (sound self.old) → ¬ IsErrOf result Fault };
 
-    /// Cuts the bytes to a length, where they are more.
+    /// Cuts the bytes to a length, if they are more.
     ///
     /// # Errors
     ///
-    /// `Fault` where the device failed, `OutOfMemory` where it is one in memory. Some of the bytes after that length may then be gone.
+    /// `Fault` if the device failed, `OutOfMemory` if it is one in memory. Some of the bytes after that length may then be gone.
     fn shorten(&mut self, len: u64) -> Result<(), DeviceError>
         ensures done { IsTrue (honest self.old) → OnOk result (contents self.new ≡ take len (contents self.old)) }
         ensures crash { IsTrue (honest self.old) → LeavesBy may_leave (IsShortened len) self.old self.new }
@@ -96,7 +96,7 @@ pub trait JournalDevice {
     ///
     /// # Errors
     ///
-    /// `Fault` where the device failed, `OutOfMemory` where it is one in memory. What was written since the last sync may then be lost
+    /// `Fault` if the device failed, `OutOfMemory` if it is one in memory. What was written since the last sync may then be lost
     /// with a power cut, whatever a later sync returns.
     fn sync(&mut self) -> Result<(), DeviceError>
         ensures done { IsTrue (honest self.old) → OnOk result (IsSynced contents may_leave self.new) }

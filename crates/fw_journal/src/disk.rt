@@ -71,12 +71,12 @@ impl Disk {
 
     /// One of the byte strings that a power cut may leave. Each change since the last sync takes the next fate: a write leaves its bytes in
     /// the front of its range, and what was there in the rest; a shortening leaves as many bytes past its length as the fate has. Where no
-    /// fate is left, a write leaves what was there, and a shortening is whole. So does a write after the end of what is left. Each byte string
-    /// that may be left is that of some fates, or what is read (`laws::each_is_cut`).
+    /// fate is left, a write leaves what was there, and a shortening is whole. So does a write after the end of what is left. Each byte
+    /// string that may be left is that of some fates, or what is read (`laws::each_is_cut`).
     ///
     /// # Errors
     ///
-    /// `AllocError` where memory was refused.
+    /// `AllocError` if memory was refused.
     pub fn cut(&self, alloc: Global, fates: &[Vec<u8>]) -> Result<Vec<u8>, AllocError>
         ensures may { IfOk result (λ left. MayLeave self.now left.items) }
         ensures chosen { IfOk result (λ left. left.items ≡ cut_of self.now (contents_of fates.now)) }
@@ -159,7 +159,7 @@ fn left_of_all(
     Ok(left)
 }
 
-/// The first fate. Where there is none, it is empty.
+/// The first fate. If there is none, it is empty.
 fn first_fate(fates: &[Vec<u8>]) -> &[u8]
     ensures { result.now ≡ first_fate (contents_of fates.now) }
 {

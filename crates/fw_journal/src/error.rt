@@ -118,7 +118,7 @@ impl From<ReplaceError> for RewriteError {
 pub enum JournalError {
     /// The bytes from this offset on are no whole record though the gate there is open; with offset 0, they don't begin as a journal does.
     BadBook { offset: u64 },
-    /// A new journal was to be made where there are bytes.
+    /// A new journal was to be made if there are bytes.
     NotEmpty,
     /// The record has 4,294,967,296 bytes or more.
     TooLong,

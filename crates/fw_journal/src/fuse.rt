@@ -37,7 +37,7 @@ pub(crate) fn burn(fuse: &mut Option<Fuse>) -> Result<(), DeviceError>
     Ok(())
 }
 
-/// The byte that a failing write leaves, where a fuse is set.
+/// The byte that a failing write leaves, if a fuse is set.
 pub(crate) fn torn_byte(fuse: &Option<Fuse>) -> u8
     ensures { result ≡ torn_of fuse.now }
 {

@@ -58,7 +58,7 @@ pub struct Journal<D: JournalDevice> {
     broken: bool,
 }
 
-// Written out: where a journal is let go, that is one call, and none of its parts is looked into.
+// Written out, so that letting go of it is one call in a proof. A derived `Drop` is unfolded there field by field, which takes minutes.
 impl<D: JournalDevice + Drop> Drop for Journal<D> {
     fn drop(self) {
         let Journal {
@@ -78,7 +78,7 @@ impl<D: JournalDevice> Journal<D> {
     ///
     /// # Errors
     ///
-    /// `NotEmpty` where there are bytes, which are left as they are and reported before memory is taken; else `BookFault` and
+    /// `NotEmpty` if there are bytes, which are left as they are and reported before memory is taken; else `BookFault` and
     /// `OutOfMemory`. The device is returned.
     pub fn create(alloc: Global, device: D) -> Result<Self, (JournalError, D)>
         ensures made { IsTrue (D.honest device) → IfOk result (λ journal. Has D.honest D.contents D.may_leave journal [] []) }
@@ -112,9 +112,9 @@ impl<D: JournalDevice> Journal<D> {
     ///
     /// # Errors
     ///
-    /// `BadBook` where the bytes aren't a journal's: with the offset of the open gate after which no whole record stands, or with 0 where
+    /// `BadBook` if the bytes aren't a journal's: with the offset of the open gate after which no whole record stands, or with 0 if
     /// they don't begin as one. Nothing is written then. Else `BookFault` and `OutOfMemory`, of the device or of the keeper, which may come
-    /// in place of `BadBook`, since the bytes and the records before that offset are read first. Where the keeper refused, nothing was
+    /// in place of `BadBook`, since the bytes and the records before that offset are read first. If the keeper refused, nothing was
     /// written. The device is returned.
     pub fn open<K: Keeper>(
         alloc: Global,
@@ -198,7 +198,7 @@ impl<D: JournalDevice> Journal<D> {
     ///
     /// # Errors
     ///
-    /// `TooLong` where it has 4,294,967,296 bytes or more, which is reported before memory is taken; else `OutOfMemory`. The journal is
+    /// `TooLong` if it has 4,294,967,296 bytes or more, which is reported before memory is taken; else `OutOfMemory`. The journal is
     /// then as before.
     pub fn append(&mut self, alloc: Global, entry: &[u8]) -> Result<(), JournalError>
         ensures waits { (done waiting : List (List ℕ)) → Has D.honest D.contents D.may_leave self.old done waiting
@@ -223,12 +223,12 @@ impl<D: JournalDevice> Journal<D> {
     }
 
     /// Puts all that waits on the device, in one group, with two syncs. From `Ok` on every power cut leaves it; a cut in the call leaves all
-    /// of it or nothing. Where nothing waits there is no call of the device, and no memory is taken.
+    /// of it or nothing. If nothing waits there is no call of the device, and no memory is taken.
     ///
     /// # Errors
     ///
-    /// `Full` where the journal or what waits has 2^60 bytes or more, else `OutOfMemory`: the journal is as before, or it is broken as with
-    /// `BookFault`, where the device failed. Of a broken journal nothing more is reported: each later commit is `BookFault`, and what is
+    /// `Full` if the journal or what waits has 2^60 bytes or more, else `OutOfMemory`: the journal is as before, or it is broken as with
+    /// `BookFault`, if the device failed. Of a broken journal nothing more is reported: each later commit is `BookFault`, and what is
     /// read in the file before the machine has started again may be lost with a power cut.
     pub fn commit(&mut self) -> Result<(), JournalError>
         ensures acknowledged { (done waiting : List (List ℕ)) → Has D.honest D.contents D.may_leave self.old done waiting
@@ -280,7 +280,7 @@ impl<D: JournalDevice> Journal<D> {
     ///
     /// # Errors
     ///
-    /// `BookFault` where the journal is broken; else `TooLong`, as `append`, and then those of `commit`. The record doesn't wait then: the
+    /// `BookFault` if the journal is broken; else `TooLong`, as `append`, and then those of `commit`. The record doesn't wait then: the
     /// journal is as before, or broken.
     pub fn commit_with(&mut self, alloc: Global, entry: &[u8]) -> Result<(), JournalError>
         ensures acknowledged { (done waiting : List (List ℕ)) → Has D.honest D.contents D.may_leave self.old done waiting
@@ -322,9 +322,9 @@ impl<D: JournalDevice> Journal<D> {
     ///
     /// # Errors
     ///
-    /// `BookFault` where the journal is broken; else `NotReplaced`, where the new bytes couldn't be made beside the old ones, or
-    /// `OutOfMemory`: the journal is as before, and what waited waits. Or it is broken, as after a commit: with `BookFault`, where the
-    /// device failed, and with `OutOfMemory`, where the device is one in memory and refused in the middle.
+    /// `BookFault` if the journal is broken; else `NotReplaced`, if the new bytes couldn't be made beside the old ones, or
+    /// `OutOfMemory`: the journal is as before, and what waited waits. Or it is broken, as after a commit: with `BookFault`, if the
+    /// device failed, and with `OutOfMemory`, if the device is one in memory and refused in the middle.
     pub fn rewrite<R: Replacer<D>>(
         &mut self,
         alloc: Global,
@@ -453,8 +453,9 @@ fn write_group<D: JournalDevice>(device: &mut D, end: u64, group: &[u8]) -> Resu
     write_synced(device, end, &[1])
 }
 
-/// Reads the records of a journal, and makes its end a shut gate where it isn't one. What a killed process wrote and didn't sync is read, though a power cut
-/// needn't leave it: so it is synced first. What reads as records behind the shut gate is kept first. Bytes that aren't a journal's are not written to.
+/// Reads the records of a journal, and makes its end a shut gate where it isn't one. What a killed process wrote and didn't sync is read,
+/// though a power cut needn't leave it: so it is synced first. What reads as records behind the shut gate is kept first. Bytes that aren't
+/// a journal's are not written to.
 fn recover<D: JournalDevice, K: Keeper>(
     alloc: Global,
     device: &mut D,

@@ -12,14 +12,14 @@ pub trait Keeper {
     /// Whether it holds these bytes.
     ghost holds: { Self → List ℕ → Type 0 };
 
-    /// Whether no call fails, except where memory is refused.
+    /// Whether no call fails, except if memory is refused.
     ghost sound: { Self → Bool };
 
     /// Keeps what stands from the shut gate of a journal on, with so many whole records one after another.
     ///
     /// # Errors
     ///
-    /// `Fault` where they couldn't be kept, `OutOfMemory` where memory was refused. The journal isn't opened then, and its bytes stay.
+    /// `Fault` if they couldn't be kept, `OutOfMemory` if memory was refused. The journal isn't opened then, and its bytes stay.
     fn keep(&mut self, records: usize, bytes: &[u8]) -> Result<(), DeviceError>
         requires counted { HasBlocks records bytes.now }
         ensures done { OnOk result (holds self.new bytes.now) }

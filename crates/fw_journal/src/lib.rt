@@ -1,5 +1,5 @@
-//! A journal: records of any length on a device that is written at its end and synced. What a commit reported is there after every
-//! power cut.
+//! A journal (a write-ahead log): records of any length on a device that is written at its end and synced (fsync). What a commit reported
+//! is there after every power cut.
 //!
 //! Its bytes are those of specs/Book.antt; the form is this profile's own. What a device promises is said at [`JournalDevice`]. There is
 //! one in memory, and one over a file.

@@ -12,7 +12,7 @@ use crate::replacing::Replacer;
 use std::alloc::{AllocError, Global};
 
 /// A device in memory, for tests: it keeps what it held at each moment. A power cut leaves what is read, or any bytes in the range of each
-/// write since the last sync. A call fails only where a fuse makes it fail, or where memory is refused.
+/// write since the last sync. A call fails only if a fuse makes it fail, or if memory is refused.
 #[derive(Drop)]
 pub struct MemoryDevice {
     alloc: Global,
@@ -29,7 +29,7 @@ impl MemoryDevice {
     ///
     /// # Errors
     ///
-    /// `AllocError` where memory was refused.
+    /// `AllocError` if memory was refused.
     pub fn new(alloc: Global, bytes: Vec<u8>) -> Result<MemoryDevice, AllocError>
         ensures held { IfOk result (λ m. held_of m ≡ record { bytes = bytes.items; synced = bytes.items; changes = [] }) }
         ensures past { IfOk result (λ m. past_of m ≡ []) }
@@ -123,7 +123,7 @@ fn overwrite(
 }
 
 /// Replaces the bytes of a device in memory, in two calls of it: the new bytes are made beside, and then they get the name of the old
-/// ones. Where the fuse makes the first one fail, nothing is replaced; where it makes the second one fail, the new bytes are read, and a
+/// ones. If the fuse makes the first one fail, nothing is replaced; where it makes the second one fail, the new bytes are read, and a
 /// power cut may still leave the old ones.
 #[derive(Drop)]
 pub struct MemoryReplacer;

@@ -101,7 +101,7 @@ fn body_at(bytes: &[u8]) -> Option<(&[u8], &[u8])>
 /// # Errors
 ///
 /// `BadBook` with an offset where the bytes are no journal's, and otherwise `OutOfMemory` alone, which may come in place of `BadBook`. It
-/// comes only where a whole record stands first.
+/// comes only if a whole record stands first.
 pub fn read_book(alloc: Global, bytes: &[u8]) -> Result<(Vec<Vec<u8>>, u64), JournalError>
     ensures records { IfOk result (λ r. Stands bytes.now (contents_of r.0.items)) }
     ensures end { IfOk result (λ r. r.1 ≡ length (book_front (contents_of r.0.items))) }

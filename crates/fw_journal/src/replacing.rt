@@ -17,8 +17,8 @@ pub trait Replacer<D: JournalDevice> {
     ///
     /// # Errors
     ///
-    /// `NotReplaced` where the new bytes couldn't be made beside the old ones: the device is as it was. `Fault` where the device failed
-    /// after that, `OutOfMemory` where it is one in memory: it has its old bytes or the new ones then.
+    /// `NotReplaced` if the new bytes couldn't be made beside the old ones: the device is as it was. `Fault` if the device failed
+    /// after that, `OutOfMemory` if it is one in memory: it has its old bytes or the new ones then.
     fn replace(&mut self, device: &mut D, bytes: &[u8]) -> Result<(), ReplaceError>
         ensures done { IsTrue (D.honest device.old) → OnOk result (D.contents device.new ≡ bytes.now) }
         ensures synced { IsTrue (D.honest device.old) → OnOk result (IsSynced D.contents D.may_leave device.new) }

@@ -71,7 +71,7 @@ pub record LosesMark {D : Type 0} (old : KeptHead D) (meter : ℕ) (datagram : L
   pub ends : IsEnd told
   pub broken : new.broken ≡ true
 
--- ---- where nothing is committed any more
+-- ---- if nothing is committed any more
 
 -- the bytes have a book of the same head end, which offers what this one does
 pub record HasOffers (book : Contents) (bytes : List ℕ) : Type 0 where
@@ -85,13 +85,13 @@ IsBacked may_leave kept = (left : List ℕ) → may_leave (device_of kept) left 
 
 -- ---- what a call that commits leaves
 
--- A call that commits what waits, and makes `next` of the book. It is refused for `refusal` of the book first, where that is some;
+-- A call that commits what waits, and makes `next` of the book. It is refused for `refusal` of the book first, if that is some;
 -- `fault` says that the device failed, in this call or in an earlier one.
 pub record Commits {D T E : Type 0} (J : JournalDevice.Ghosts D) (fault : E) (refusal : Option BookError) (old : KeptHead D) (result : Result T E) (new : KeptHead D) (next : Contents) : Type 0 where
   -- from `Ok` on every power cut leaves that book
   pub acknowledged : (synced : Contents) → Holds J.honest J.contents J.may_leave old synced → OnOk result (Holds J.honest J.contents J.may_leave new next)
   pub each_cut : (synced : Contents) → Holds J.honest J.contents J.may_leave old synced → OnOk result ((left : List ℕ) → J.may_leave (device_of new) left → HasBook (book_of old).head left next)
-  -- where it is refused, what a power cut leaves and what waits are as they were, or it is broken
+  -- if it is refused, what a power cut leaves and what waits are as they were, or it is broken
   pub unchanged : (synced : Contents) → Holds J.honest J.contents J.may_leave old synced → OnErr result (Holds J.honest J.contents J.may_leave new synced ⊎ IsTrue (is_broken new))
   -- a cut at any moment of the call leaves the book of the last commit, or that one
   pub any_moment : (synced : Contents) → Holds J.honest J.contents J.may_leave old synced
@@ -99,7 +99,7 @@ pub record Commits {D T E : Type 0} (J : JournalDevice.Ghosts D) (fault : E) (re
   -- and so does the call where it returns, as it is read back without a cut: the process may be killed then
   pub read_back : (synced : Contents) → Holds J.honest J.contents J.may_leave old synced
       → HasBook (book_of old).head (J.contents (device_of new)) synced ⊎ HasBook (book_of old).head (J.contents (device_of new)) next
-  -- also where nothing is committed from now on: every cut leaves a book that offers what the one in memory does
+  -- also if nothing is committed from now on: every cut leaves a book that offers what the one in memory does
   pub backed : (synced : Contents) → Holds J.honest J.contents J.may_leave old synced → IsBacked J.may_leave new
   pub stays_backed : IsTrue (is_broken old) → IsBacked J.may_leave old → IsBacked J.may_leave new
   -- whatever the device is: what failed once stays failed, and only a device that isn't sound fails

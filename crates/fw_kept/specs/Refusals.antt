@@ -8,7 +8,7 @@ use Rattle.fw_kept.specs.declared.error.KeptError.TheVariants.{Refused, Full, Bo
 use Rattle.fw_kept.specs.declared.error.OpenError.{OpenError}
 use Rattle.fw_kept.specs.declared.error.OpenError.TheVariants as opened
 
--- a call that is committed at once: the book's first refusal; where it has none, what the commit is refused for
+-- a call that is committed at once: the book's first refusal; if it has none, what the commit is refused for
 abbrev pub IsRefusedFor : Option BookError → KeptError → Type 0
 IsRefusedFor refusal (Refused e) = refusal ≡ Some e
 IsRefusedFor refusal Full = refusal ≡ None

@@ -61,7 +61,7 @@ pub struct KeptHead<D: JournalDevice> {
     broken: bool,
 }
 
-// Written out: where a head end is let go, that is one call, and none of its parts is looked into.
+// Written out, so that letting go of it is one call in a proof. A derived `Drop` is unfolded there field by field, which takes minutes.
 impl<D: JournalDevice + Drop> Drop for KeptHead<D> {
     fn drop(self) {
         let KeptHead {
@@ -94,7 +94,7 @@ impl<D: JournalDevice> KeptHead<D> {
     ///
     /// # Errors
     ///
-    /// `NotEmpty` where there are bytes, which are left as they are and reported before memory is taken; else `BookFault` and
+    /// `NotEmpty` if there are bytes, which are left as they are and reported before memory is taken; else `BookFault` and
     /// `OutOfMemory`. The device is returned.
     pub fn create(
         alloc: Global,
@@ -132,7 +132,7 @@ impl<D: JournalDevice> KeptHead<D> {
     ///
     /// # Errors
     ///
-    /// `BadBook` with an offset where the bytes are no journal's; nothing is written then. `ForeignHead` where the book is another head
+    /// `BadBook` with an offset where the bytes are no journal's; nothing is written then. `ForeignHead` if the book is another head
     /// end's, and `BadRecord` with the index of a record that has no place in the book of those before it; the journal has the same records
     /// then. Else `BookFault` and `OutOfMemory`, of the device or of the keeper, which may come in place of these. The device is returned.
     pub fn open<K: Keeper>(
@@ -292,8 +292,8 @@ impl<D: JournalDevice> KeptHead<D> {
     ///
     /// # Errors
     ///
-    /// The first refusal of the book. Otherwise `BookFault` where the head end is broken; then `Full`, where the journal or what waits has
-    /// 2^60 bytes or more, `BookFault`, where the device failed, or `OutOfMemory`. The head end in memory is as it was. What a cut leaves is
+    /// The first refusal of the book. Otherwise `BookFault` if the head end is broken; then `Full`, if the journal or what waits has
+    /// 2^60 bytes or more, `BookFault`, if the device failed, or `OutOfMemory`. The head end in memory is as it was. What a cut leaves is
     /// as it was, or the head end is broken: each later commit is `BookFault` then, and opening the device again shows whether it has the
     /// campaign.
     pub fn open_campaign(
@@ -336,7 +336,7 @@ impl<D: JournalDevice> KeptHead<D> {
     ///
     /// # Errors
     ///
-    /// The first refusal of the book. Otherwise `BookFault` where the head end is broken; then `Full`, `BookFault` or `OutOfMemory`, as for
+    /// The first refusal of the book. Otherwise `BookFault` if the head end is broken; then `Full`, `BookFault` or `OutOfMemory`, as for
     /// `open_campaign`. The head end in memory is as it was.
     pub fn cancel(&mut self, alloc: Global, serial: u32) -> Result<(), KeptError>
         requires { 1 ≤ serial }
@@ -360,14 +360,14 @@ impl<D: JournalDevice> KeptHead<D> {
     ///
     /// # Errors
     ///
-    /// `OutOfMemory` alone, and only where the meter has a live row. The head end is then as before.
+    /// `OutOfMemory` alone, and only if the meter has a live row. The head end is then as before.
     pub fn tick(&mut self, alloc: Global, meter: MeterId) -> Result<Vec<Vec<u8>>, OutOfMemory>
         ensures sent { IfOk result (λ sent. bytes_of sent.items ≡ sends_to (head_of self.old) meter) }
         // Nothing is sent that the book on the device doesn't offer.
         ensures permitted { (synced : Contents) → Holds D.honest D.contents D.may_leave self.old synced
             → IfOk result (λ sent. All (IsOfferedIn synced) (bytes_of sent.items)) }
 
-        // Also where nothing is committed any more: nothing is sent but what each book offers that offers what the one in memory does.
+        // Also if nothing is committed any more: nothing is sent but what each book offers that offers what the one in memory does.
         ensures offered { (book : Contents) → OffersAlso (book_of self.old) book
             → IfOk result (λ sent. All (IsOfferedIn book) (bytes_of sent.items)) }
         ensures book { book_of self.new ≡ book_of self.old }
@@ -383,7 +383,7 @@ impl<D: JournalDevice> KeptHead<D> {
         self.head.tick(alloc, meter)
     }
 
-    /// Hears a datagram that came from a meter, as [`HeadCore::hear`]. Where a row ended, its mark waits for the next commit: only after it
+    /// Hears a datagram that came from a meter, as [`HeadCore::hear`]. If a row ended, its mark waits for the next commit: only after it
     /// may the row be reported as ended. The device isn't touched.
     ///
     /// # Errors
@@ -392,7 +392,7 @@ impl<D: JournalDevice> KeptHead<D> {
     /// is broken then, so that no later commit reports the row.
     pub fn hear(&mut self, alloc: Global, from: MeterId, datagram: &[u8]) -> Result<News, KeptError>
         ensures heard { IfOk result (λ told. HeadHears (head_of self.old) from datagram.now told (head_of self.new)) }
-        // A meter is reported done exactly where its own answer claims what the campaign offers.
+        // A meter is reported done exactly if its own answer claims what the campaign offers.
         ensures done { IfOk result (λ told. (campaign : Campaign) (meter : ℕ) → (told ≡ News.Done campaign meter)
             ↔ ((meter ≡ from) × IsDoneBy (head_of self.old) meter datagram.now campaign)) }
         ensures waits { (synced : Contents) → Holds D.honest D.contents D.may_leave self.old synced
@@ -404,7 +404,7 @@ impl<D: JournalDevice> KeptHead<D> {
             ⊎ LosesMark self.old from datagram.now self.new) }
         ensures refused { IfErr result (λ e. e ≡ KeptError.OutOfMemory) }
 
-        // Also where nothing is committed any more: what is offered stays.
+        // Also if nothing is committed any more: what is offered stays.
         ensures offers { OfferSame (book_of self.new) (book_of self.old) }
         ensures backed { IsBacked D.may_leave self.old → IsBacked D.may_leave self.new }
         ensures device { device_of self.new ≡ device_of self.old }
@@ -430,7 +430,7 @@ impl<D: JournalDevice> KeptHead<D> {
     ///
     /// # Errors
     ///
-    /// `BookFault` where the head end is broken; else `Full`, `BookFault` or `OutOfMemory`. The head end in memory is as it was. What a cut
+    /// `BookFault` if the head end is broken; else `Full`, `BookFault` or `OutOfMemory`. The head end in memory is as it was. What a cut
     /// leaves is as it was, or the head end is broken.
     pub fn commit(&mut self) -> Result<(), KeptError>
         ensures head { head_of self.new ≡ head_of self.old }
@@ -471,8 +471,8 @@ impl<D: JournalDevice> KeptHead<D> {
     ///
     /// # Errors
     ///
-    /// `BookFault` where the head end is broken; else `NotReplaced`, where the new bytes couldn't be made beside the old ones, and it goes
-    /// on; or `BookFault`, where the device failed, or `OutOfMemory`. The head end in memory is as it was. What a cut leaves is as it was,
+    /// `BookFault` if the head end is broken; else `NotReplaced`, if the new bytes couldn't be made beside the old ones, and it goes
+    /// on; or `BookFault`, if the device failed, or `OutOfMemory`. The head end in memory is as it was. What a cut leaves is as it was,
     /// and the marks wait, or the head end is broken.
     pub fn compact<R: Replacer<D>>(
         &mut self,

@@ -66,7 +66,7 @@ pub(crate) fn open_book<D: JournalDevice, K: Keeper>(
 ///
 /// # Errors
 ///
-/// `ForeignHead` where the first is of another head end; else `BadRecord` with the index of the first that has no place in the book of
+/// `ForeignHead` if the first is of another head end; else `BadRecord` with the index of the first that has no place in the book of
 /// those before it. Otherwise `OutOfMemory` alone.
 pub(crate) fn book_of(alloc: Global, head: HeadId, records: &[Vec<u8>]) -> Result<Book, OpenError>
     ensures found { IfOk result (λ book. IsBookOf head (records_of records.now) book) }

@@ -54,7 +54,7 @@ pub(crate) fn add<D: JournalDevice>(
     }
 }
 
-/// Commits a record with those that wait. It doesn't wait where that is refused.
+/// Commits a record with those that wait. It doesn't wait if that is refused.
 pub(crate) fn put<D: JournalDevice>(
     alloc: Global,
     journal: &mut Journal<D>,

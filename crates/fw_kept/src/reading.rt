@@ -15,13 +15,13 @@ use fw_ledger::{RecordError, read_record};
 use fw_names::HeadId;
 use std::alloc::Global;
 
-/// The book that the bytes of a journal hold, and `None` where it has no record, so that any head end may have it; and how many whole
+/// The book that the bytes of a journal hold, and `None` if it has no record, so that any head end may have it; and how many whole
 /// records stand behind its shut gate, which the book lacks. The bytes may have been read from front to back while a head end writes them.
 ///
 /// # Errors
 ///
 /// `BadBook` with an offset where the bytes are no journal's, `BadRecord` with the index of a record that has no place in the book of those
-/// before it. Such bytes have no book of any head end. Otherwise `OutOfMemory` alone, which may come in place of these, and only where a
+/// before it. Such bytes have no book of any head end. Otherwise `OutOfMemory` alone, which may come in place of these, and only if a
 /// whole record stands first.
 pub fn read_kept(alloc: Global, bytes: &[u8]) -> Result<(Option<Book>, usize), OpenError>
     ensures found { IfOk result (λ r. IsReadAs bytes.now r.0) }
@@ -43,7 +43,7 @@ pub fn read_kept(alloc: Global, bytes: &[u8]) -> Result<(Option<Book>, usize), O
     }
 }
 
-/// The book of the head end of the first of these records, and `None` where there is none.
+/// The book of the head end of the first of these records, and `None` if there is none.
 fn book_in(alloc: Global, records: &[Vec<u8>]) -> Result<Option<Book>, OpenError>
     ensures found { IfOk result (AreReadAs (records_of records.now)) }
     ensures refused { IfErr result (IsReadingRefusal (records_of records.now)) }

@@ -11,7 +11,7 @@ linked_at (e ∷ entries) (suc k) meter within is =
     let (j, x, in_rest, at, same) = linked_at entries k meter (omega (arith, within)) is in
     (suc j, x, omega (arith, in_rest), at, same)
 
--- where the links are with these meters in order, there is one with each
+-- if the links are with these meters in order, there is one with each
 pub linked : (entries : List (Entry ℕ)) (meters : List ℕ) (k meter : ℕ) → ends_in entries ≡ meters → k < length meters → get_or meters k meter ≡ meter
     → HasEnd entries meter
 linked entries meters k meter same within is =

@@ -10,7 +10,7 @@ pub trait Randomness {
     /// Whether it gave these bytes.
     ghost gave: { Self → List ℕ → Type 0 };
 
-    /// As many bytes as the keys of a link take. They are secret, and it never gives them again. None where it has no more.
+    /// As many bytes as the keys of a link take. They are secret, and it never gives them again. None if it has no more.
     fn give(&self) -> Option<[u8; RANDOM_SIZE]>
         ensures { IfSome result (gave self.now) };
 }

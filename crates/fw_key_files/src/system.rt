@@ -36,8 +36,8 @@ fn fault(cause: Cause) -> Because<KeyFileError>
     Because::of(KeyFileError::KeysFault, cause.at(Name::Main))
 }
 
-/// The bytes of the file at this path, if its owner alone may read and write it. What it may is that of the file which was opened, so no other
-/// can come in its place.
+/// The bytes of the file at this path, if its owner alone may read and write it. What it may is that of the file which was opened, so no
+/// other can come in its place.
 ///
 /// # Errors
 ///
@@ -110,12 +110,12 @@ fn put(text: &mut Vec<u8>, bytes: &[u8]) -> Result<(), KeyFileError>
     Ok(())
 }
 
-/// Makes these files, which their owner alone may read and write from the start. Each has its whole text, and a power cut leaves them. No file is
-/// written over.
+/// Makes these files, which their owner alone may read and write from the start. Each has its whole text, and a power cut leaves them. No
+/// file is written over.
 ///
 /// # Errors
 ///
-/// The first file that can't be made, and why: `Exists` where another file has its path, which is left as it is. Those that were made before it
+/// The first file that can't be made, and why: `Exists` if another file has its path, which is left as it is. Those that were made before it
 /// are removed.
 pub fn make_files<R: Files<File = File>>(rt: &R, files: &[NewFile]) -> Result<(), NotMade>
     // Of the system's files nothing is known.
@@ -134,7 +134,7 @@ pub fn make_files<R: Files<File = File>>(rt: &R, files: &[NewFile]) -> Result<()
     Ok(())
 }
 
-/// Makes a file. Where that fails once it was there, it is removed.
+/// Makes a file. If that fails once it was there, it is removed.
 fn make<R: Files<File = File>>(rt: &R, new: &NewFile) -> Result<(), Cause>
     ensures { IfErr result IsOfSystem }
 {

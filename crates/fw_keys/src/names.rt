@@ -35,7 +35,7 @@ pub trait EndName: Sized + Drop {
     ///
     /// # Errors
     ///
-    /// `AllocError` where memory was refused.
+    /// `AllocError` if memory was refused.
     fn to_text(&self, alloc: Global) -> Result<String, AllocError>
         ensures text { IfOk result (λ text. string_bytes text ≡ spelling self.now) }
         ensures back { shown self.now → ReadsBack names (spelling self.now) self.now };

@@ -19,7 +19,7 @@ use std::net::SocketAddr;
 ///
 /// # Errors
 ///
-/// `AllocError` where memory was refused.
+/// `AllocError` if memory was refused.
 pub fn head_text(alloc: Global, file: &KeyFile<MeterId>) -> Result<Vec<u8>, AllocError>
     ensures lines { IfOk result (λ v. v.items ≡ links_text decimal file.now.entries) }
     ensures spells { (head : ℕ) → file.now.own ≡ head_title head → IfOk result (λ v. SpellsHeadKeys v.items head file.now) }
@@ -33,7 +33,7 @@ pub fn head_text(alloc: Global, file: &KeyFile<MeterId>) -> Result<Vec<u8>, Allo
 ///
 /// # Errors
 ///
-/// `AllocError` where memory was refused.
+/// `AllocError` if memory was refused.
 pub fn meter_text(alloc: Global, file: &KeyFile<SocketAddr>) -> Result<Vec<u8>, AllocError>
     ensures lines { IfOk result (λ v. v.items ≡ title_line file.now.own ++ links_text socket_text file.now.entries) }
     ensures spells { AreShown file.now.entries → IfOk result (λ v. SpellsMeterKeys v.items file.now) }

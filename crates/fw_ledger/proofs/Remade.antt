@@ -60,7 +60,7 @@ any_changed test change step (row ∷ rows) h =
 
 -- ---- campaigns in the order in which they were opened
 
--- where a row was cancelled, none is live
+-- if a row was cancelled, none is live
 abbrev pub EndsWhole : List Row → Type 0
 EndsWhole rows = (has_cancelled rows ≡ false) ⊎ (has_live rows ≡ false)
 

@@ -38,7 +38,7 @@ abbrev pub MakesNumbered : Contents → Campaign → ℕ → ℕ → Contents �
 MakesNumbered book campaign meter number next =
     ((number ≡ 0) × (next ≡ book)) ⊎ ((e : Ending) × (number ≡ ending_number e) × MakesMarked book campaign meter e next)
 
--- what the numbers of these meters make of a book, one after the other, where there is one for each meter
+-- what the numbers of these meters make of a book, one after the other, if there is one for each meter
 abbrev pub MakesEach : Contents → Campaign → List ℕ → List ℕ → Contents → Type 0
 MakesEach book campaign [] [] next = next ≡ book
 MakesEach book campaign (meter ∷ meters) (number ∷ numbers) next =

@@ -17,7 +17,7 @@ pub fn failed_have_none()
     ensures { FailedHaveNone }
 {}
 
-/// Where records have a book, the first ones of them have one too: that of an earlier moment.
+/// If records have a book, the first ones of them have one too: that of an earlier moment.
 pub fn fronts_have_books()
     ensures { FrontsHaveBooks }
 {}

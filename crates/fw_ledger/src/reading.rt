@@ -266,7 +266,7 @@ fn endings_of(bytes: &[u8]) -> Option<Record<'_>>
 ///
 /// # Errors
 ///
-/// `BadRecord` where they spell none. Otherwise `OutOfMemory` alone, and only for the meters of an opening.
+/// `BadRecord` if they spell none. Otherwise `OutOfMemory` alone, and only for the meters of an opening.
 pub fn read_record(alloc: Global, bytes: &[u8]) -> Result<Record<'_>, RecordError>
     ensures found { IfOk result (λ r. Spells bytes.now (entry_of r)) }
     ensures bad { IsErrOf result RecordError.BadRecord → NoRecord bytes.now }

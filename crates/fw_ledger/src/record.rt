@@ -44,7 +44,7 @@ pub enum Record<'a> {
     Cancelling {
         campaign: CampaignId,
     },
-    /// Rows of a campaign ended, as a mark of each would say: a byte for each row, in their order, which is 0 where it didn't end, 1 where
+    /// Rows of a campaign ended, as a mark of each would say: a byte for each row, in their order, which is 0 if it didn't end, 1 if
     /// it is done, and 2 where it failed. Some row did end.
     Endings {
         campaign: CampaignId,

@@ -31,7 +31,7 @@ use std::alloc::{AllocError, Global};
 ///
 /// # Errors
 ///
-/// `AllocError` where memory was refused.
+/// `AllocError` if memory was refused.
 pub fn write_records(alloc: Global, book: &Book) -> Result<Vec<Vec<u8>>, AllocError>
     ensures made { IsMade book.now → IfOk result (λ records. IsBookOf book.now.head (records_of records.items) book.now) }
     ensures short { IfOk result (λ records. AllByRecursion (λ (bytes : List ℕ). length bytes < 2 ^ 32) (records_of records.items)) }

@@ -99,7 +99,7 @@ fn remark(
     }
 }
 
-/// Marks a meter's row again by the number of its ending, where that isn't 0.
+/// Marks a meter's row again by the number of its ending, if that isn't 0.
 fn renumber(
     book: &mut RestoredBook,
     campaign: CampaignId,

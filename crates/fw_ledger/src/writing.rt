@@ -112,7 +112,7 @@ impl Record<'_> {
     ///
     /// # Errors
     ///
-    /// `BadRecord` where it has none. Otherwise `OutOfMemory` alone.
+    /// `BadRecord` if it has none. Otherwise `OutOfMemory` alone.
     pub fn to_bytes(&self, alloc: Global) -> Result<Vec<u8>, RecordError>
         ensures spelled { IfOk result (λ bytes. Spells bytes.items (entry_of self.now)) }
         ensures bad { IsErrOf result RecordError.BadRecord → ¬ HasSpelling (entry_of self.now) }

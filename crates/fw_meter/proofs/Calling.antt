@@ -30,7 +30,7 @@ use Rattle.fw_meter.proofs.Stops.{activates_none, fault_told_by}
 
 -- ---- an operation
 
--- a code reports a fault just where there is one
+-- a code reports a fault just if there is one
 told_as : (made : OperationOutcome) → tells_no_fault (coded (operation_code made)) ≡ is_operation_faultless made
 told_as done = refl
 told_as (refused Disabled) = refl

@@ -7,7 +7,7 @@ use Rattle.fw_meter.specs.Step.{tells_no_fault}
 use Rattle.fw_meter.specs.Handling.{Handles}
 use Rattle.fw_meter.specs.Laws.{Faultless}
 
--- what is known of the faults is so where something else is known
+-- what is known of the faults is so if something else is known
 knowing : (honest : Bool) (A B : Bool → Type 0) (old new : Meter) (datagram : List ℕ) (reply : Option (List ℕ)) (activated : Option Name) → ((faultless : Bool) → A faultless → B faultless) → Handles honest A old datagram reply activated new
     → Handles honest B old datagram reply activated new
 knowing honest A B old new datagram reply activated more (inl serves) = inl (record {

@@ -35,7 +35,7 @@ reply_to source invoke content result =
     if is_confirmed invoke then Some (wrapped 1 source (response_bytes invoke (response_of (outcome_in content result)))) else None
 
 -- The meter makes the step of a request, with this invoke byte from this source, and replies with its result. Faults says what is known of
--- the store's faults where none of its calls failed, or one did.
+-- the store's faults if none of its calls failed, or one did.
 pub record Responds (honest : Bool) (Faults : Bool → Type 0) (old : Meter) (source invoke : ℕ) (content : RequestContent) (reply : Option (List ℕ)) (activated : Option Name) (new : Meter) : Type 0 where
   pub result : MeterResult
   pub steps : MeterStep honest old (meaning_of content) result new
@@ -69,7 +69,7 @@ Handles honest Faults old datagram reply activated new =
 abbrev pub reply_bytes : Option (Vec ℕ) → Option (List ℕ)
 reply_bytes reply = option_map (λ v. v.items) reply
 
--- ---- where memory may be taken
+-- ---- if memory may be taken
 
 -- a datagram brings a request that asks for a response
 pub record AsksForResponse (datagram : List ℕ) : Type 0 where

@@ -24,7 +24,7 @@ abbrev pub IsHeard : List ℕ → Option Heard → Type 0
 IsHeard datagram (Some heard) = Brings datagram heard.source (request_invoke heard.request) (request_content heard.request)
 IsHeard datagram None = BringsNothing datagram
 
--- room for the datagram that carries a code back, of 13 bytes at most, just where a response was asked for
+-- room for the datagram that carries a code back, of 13 bytes at most, just if a response was asked for
 abbrev pub IsRoomFor : Heard → Option (Vec ℕ) → Type 0
 IsRoomFor heard None = is_confirmed (request_invoke heard.request) ≡ false
 IsRoomFor heard (Some room) = IsTrue (is_confirmed (request_invoke heard.request)) × (room.items ≡ []) × (13 ≤ vec_capacity room)
@@ -33,11 +33,11 @@ IsRoomFor heard (Some room) = IsTrue (is_confirmed (request_invoke heard.request
 abbrev pub IsMade : State → image.Operation → ℕ → State → Type 0
 IsMade old operation c new = (outcome : image.OperationOutcome) × Makes old operation outcome new × (c ≡ operation_code outcome)
 
--- the calls of its store that a meter makes for an operation: those that it takes, or none where a line refuses it
+-- the calls of its store that a meter makes for an operation: those that it takes, or none if a line refuses it
 abbrev pub CallsFor : Meter → image.Operation → ℕ → Type 0
 CallsFor m operation calls = (image.Serves m operation × (calls ≡ calls_for m operation)) ⊎ (¬ image.Serves m operation × (calls ≡ 0))
 
--- and for a request: none where it asks for no operation
+-- and for a request: none if it asks for no operation
 abbrev pub CallsOf : Meter → Meaning → ℕ → Type 0
 CallsOf m asked calls =
     ((operation : image.Operation) × AsksFor asked operation × CallsFor m operation calls)

@@ -54,7 +54,7 @@ pub struct MeterCore<S: ImageStore + Drop> {
     phase: Option<Phase<S>>,
 }
 
-// Written out: where a meter is let go, that is one call, and none of its parts is looked into.
+// Written out, so that letting go of it is one call in a proof. A derived `Drop` is unfolded there field by field, which takes minutes.
 impl<S: ImageStore + Drop> Drop for MeterCore<S> {
     fn drop(self) {
         let MeterCore { phase: _ } = self;
@@ -86,12 +86,12 @@ pub struct Handled {
 }
 
 impl<S: ImageStore + Drop> MeterCore<S> {
-    /// A meter in the state that a store has. Its header is then written in version 2, with all else kept, where it is one of
+    /// A meter in the state that a store has. Its header is then written in version 2, with all else kept, if it is one of
     /// version 1.
     ///
     /// # Errors
     ///
-    /// `Fault` where the store failed, `BadHeader` where its header is none that it can have, and `BadImage` where the image
+    /// `Fault` if the store failed, `BadHeader` if its header is none that it can have, and `BadImage` if the image
     /// that runs, or a verified one, hasn't the digest of its name, in this order. The store is returned, and holds what it
     /// held.
     pub fn open_store(store: S) -> Result<MeterCore<S>, (OpenError, S)>
@@ -104,7 +104,7 @@ impl<S: ImageStore + Drop> MeterCore<S> {
         ensures again { (meter : Meter) → IsMeterOf (S.known store).capacity (S.known store).device meter → IsTrusted meter
             → IsTrue (S.known store).honest → IsTrue (S.known store).sound → IsOkAnd result (λ opened. opened.meter ≡ migrated meter) }
 
-        // An honest store that holds such a meter is refused only where one of these calls fails.
+        // An honest store that holds such a meter is refused only if one of these calls fails.
         ensures cut { (meter : Meter) → IsMeterOf (S.known store).capacity (S.known store).device meter → IsTrusted meter
             → IsTrue (S.known store).honest → IfErr result (λ e. Spends (restart_calls meter) (S.known store).fuse (S.known e.1).fuse false) }
         ensures refused { IfErr result (λ e. Refused (S.known store) e.0 (S.known e.1)) }
@@ -130,7 +130,7 @@ impl<S: ImageStore + Drop> MeterCore<S> {
         ensures again { (meter : Meter) → IsMeterOf (S.known store).capacity (S.known store).device meter → IsTrusted meter
             → IsTrue (S.known store).honest → IsTrue (S.known store).sound → IsOkAnd result (λ opened. opened.meter ≡ meter) }
 
-        // An honest store that holds such a meter is refused only where one of these calls fails.
+        // An honest store that holds such a meter is refused only if one of these calls fails.
         ensures cut { (meter : Meter) → IsMeterOf (S.known store).capacity (S.known store).device meter → IsTrusted meter
             → IsTrue (S.known store).honest → IfErr result (λ e. Spends (opening_calls meter) (S.known store).fuse (S.known e.1).fuse false) }
         ensures refused { IfErr result (λ e. Refused (S.known store) e.0 (S.known e.1)) }
@@ -144,7 +144,7 @@ impl<S: ImageStore + Drop> MeterCore<S> {
     ///
     /// # Errors
     ///
-    /// As for `open_store`. An honest store is refused only where it fails. The meter is what `open_kept` gives of it then.
+    /// As for `open_store`. An honest store is refused only if it fails. The meter is what `open_kept` gives of it then.
     pub fn restart(self) -> Result<MeterCore<S>, (OpenError, S)>
         ensures same { IsTrue self.honest → IfOk result (λ meter. meter.meter ≡ restarted self.meter) }
         ensures begins { IfOk result (λ meter. reopened meter.meter ≡ meter.meter) }
@@ -158,7 +158,7 @@ impl<S: ImageStore + Drop> MeterCore<S> {
             × (IsTrue self.honest → restart_calls was ≡ restart_calls self.meter)
             × Spends (restart_calls was) self.fuse meter.fuse true) }
 
-        // An honest store is refused only where one of these calls fails.
+        // An honest store is refused only if one of these calls fails.
         ensures cut { IsTrue self.honest
             → IfErr result (λ e. Spends (restart_calls self.meter) self.fuse (S.known e.1).fuse false) }
         ensures counted { IfErr result (λ e. (S.known e.1).faults ≡ count_after (is_opening_faultless e.0) self.faults) }
@@ -179,7 +179,7 @@ impl<S: ImageStore + Drop> MeterCore<S> {
     ///
     /// # Errors
     ///
-    /// `OutOfMemory`, only where a request asks for a response or an APDU to wPort 1 may hold a Data. The meter and its store
+    /// `OutOfMemory`, only if a request asks for a response or an APDU to wPort 1 may hold a Data. The meter and its store
     /// are then as before.
     pub fn handle(&mut self, alloc: Global, datagram: &[u8]) -> Result<Handled, OutOfMemory>
         ensures step { IfOk result (λ h. Handles self.old.honest (Counts self.old self.new) self.old.meter datagram.now
@@ -187,7 +187,7 @@ impl<S: ImageStore + Drop> MeterCore<S> {
         ensures follows { Follows self.old self.new }
         ensures calls { OnOk result (CallsStore self.old datagram.now self.new) }
 
-        // Where the calls of an honest store fail after some, this is what they leave.
+        // If the calls of an honest store fail after some, this is what they leave.
         ensures cut { IfOk result (λ h. IsTrue self.old.honest → (set : Fuse) → self.old.fuse ≡ Some set
             → StopsAfter set.calls set.torn self.old.meter datagram.now h.activated self.new.meter) }
         ensures err { OnErr result (self.new ≡ self.old) }
@@ -206,7 +206,7 @@ impl<S: ImageStore + Drop> MeterCore<S> {
 
     /// A turn of the meter, which it takes on its own, whether transfer is enabled or not. While an image is verified, a slice
     /// more of it is read, 4,096 bytes, and after the last one the digest is compared with that of the image's name, and the
-    /// result noted by one write of the header. Where the store failed, the verification is given up, and the image is
+    /// result noted by one write of the header. If the store failed, the verification is given up, and the image is
     /// received as before. In every other status nothing is done.
     pub fn turn(&mut self)
         ensures { Turns self.old self.new }
@@ -217,7 +217,7 @@ impl<S: ImageStore + Drop> MeterCore<S> {
         self.phase = Some(phase.turn());
     }
 
-    /// How many bytes the image has that was verified and is not yet activated, and 0 where there is none.
+    /// How many bytes the image has that was verified and is not yet activated, and 0 if there is none.
     pub fn verified_size(&self) -> u32
         ensures size { result ≡ verified_size self.now.meter.phase }
 
@@ -273,7 +273,7 @@ impl<S: ImageStore + Drop> MeterCore<S> {
         // Over an honest store the images have the digests of their names.
         ensures trusted { IsTrue self.now.honest → IsTrusted self.now.meter }
 
-        // It is over a store of its type: over one in memory it is honest, and sound where no fuse is set.
+        // It is over a store of its type: over one in memory it is honest, and sound if no fuse is set.
         ensures over { IsOver S.known self.now }
     {
         match &self.phase {
@@ -286,7 +286,7 @@ impl<S: ImageStore + Drop> MeterCore<S> {
     ///
     /// # Errors
     ///
-    /// `StoreFault` where the store failed. `out` may then have any bytes.
+    /// `StoreFault` if the store failed. `out` may then have any bytes.
     pub fn read_running(&mut self, out: &mut [u8]) -> Result<(), StoreFault>
         requires { length out.old ≡ length self.old.meter.running.bytes }
         ensures done { IsTrue self.old.honest → OnOk result (out.new ≡ self.old.meter.running.bytes) }

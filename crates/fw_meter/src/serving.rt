@@ -56,7 +56,7 @@ pub(crate) fn hear(alloc: Global, datagram: &[u8]) -> Result<Option<Heard>, OutO
 ///
 /// # Errors
 ///
-/// `OutOfMemory`, only where an APDU to wPort 1 may hold a Data.
+/// `OutOfMemory`, only if an APDU to wPort 1 may hold a Data.
 pub fn asks_for_response(alloc: Global, datagram: &[u8]) -> Result<bool, OutOfMemory>
     ensures asks { IfOk result (λ asks. IsTrue asks → AsksForResponse datagram.now) }
     ensures told { AsksForResponse datagram.now → IfOk result IsTrue }

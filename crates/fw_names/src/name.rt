@@ -34,7 +34,7 @@ const RELEASED: u8 = 2;
 pub struct ImageName {
     /// The campaign that offers the image.
     pub campaign: CampaignId,
-    /// The image's release, and 0 where it has none, as those have that meters are made with. A meter that runs a release takes no
+    /// The image's release, and 0 if it has none, as those have that meters are made with. A meter that runs a release takes no
     /// lower one.
     pub release: u32,
     /// The SHA-256 of the image's bytes.
@@ -77,7 +77,7 @@ impl ImageName {
         bytes
     }
 
-    /// The name that these bytes spell, and `None` where they spell none.
+    /// The name that these bytes spell, and `None` if they spell none.
     pub fn from_bytes(bytes: &[u8]) -> Option<ImageName>
         ensures found { IfSome result (SpellsName bytes.now) }
 
@@ -102,7 +102,7 @@ impl ImageName {
         ImageName { release: 0, ..self }
     }
 
-    /// The name with this release in place of its own, and `None` where its campaign can't have it, as the factory's has 0 alone.
+    /// The name with this release in place of its own, and `None` if its campaign can't have it, as the factory's has 0 alone.
     pub fn with_release(self, release: u32) -> Option<ImageName>
         ensures { SomeIff result (IsRelease self.campaign release) (record self { release = release }) }
     {
@@ -113,7 +113,7 @@ impl ImageName {
     }
 }
 
-/// Whether an image of a release may follow one that runs: not where its release is below that one's.
+/// Whether an image of a release may follow one that runs: no downgrade (anti-rollback), so not if its release is below that one's.
 pub fn is_risen(running: u32, release: u32) -> bool
     ensures value { result ≡ is_risen running release }
     ensures meaning { IsTrue result ↔ IsRisen running release }
@@ -187,7 +187,7 @@ pub fn digest_of(image: &[u8]) -> [u8; 32]
     Sha256::digest(image)
 }
 
-/// The name under which a campaign offers an image of this release, which has to be 0 where the campaign is the factory's.
+/// The name under which a campaign offers an image of this release, which has to be 0 if the campaign is the factory's.
 pub fn name_of(campaign: CampaignId, release: u32, image: &[u8]) -> ImageName
     requires { campaign ≡ factory → release ≡ 0 }
     ensures value { result ≡ name_of campaign release image.now }

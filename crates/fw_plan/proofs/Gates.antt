@@ -22,7 +22,7 @@ own_wave max_failed rows wave row next there may =
     let not_late : ¬ (wave < row.wave) = λ above. both_ways (is_live next.row.state) (late (omega (arith, next.own, above))) next.live in
     omega (arith, not_early, not_late)
 
--- the gate lets a row be asked exactly where it may be
+-- the gate lets a row be asked exactly if it may be
 pub gate_asks : (max_failed : MaxFailed) (rows : List WaveRow) (gate : Gate) → IsGate max_failed rows gate
     → (row : WaveRow) → Contains rows row → Asks gate row ↔ MayAsk max_failed rows row
 gate_asks max_failed rows (gate.Open wave) is row there = (

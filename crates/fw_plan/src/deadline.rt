@@ -8,7 +8,7 @@ use fw_book::RowState;
 /// When a meter was asked, and when it was heard, by the caller's clock in seconds.
 #[derive(Clone, Copy)]
 pub struct Contact {
-    /// When it was asked first since it was heard last. `None` where it owes no answer.
+    /// When it was asked first since it was heard last. `None` if it owes no answer.
     pub asked: Option<u64>,
     /// When it was heard last.
     pub heard: Option<u64>,

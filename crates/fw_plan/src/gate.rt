@@ -56,7 +56,7 @@ impl Gate {
 pub fn gate_of(rows: &[WaveRow], max_failed: MaxFailed) -> Gate
     ensures gate { IsGate max_failed rows.now result }
 
-    // The gate lets a row be asked exactly where its wave's time has come.
+    // The gate lets a row be asked exactly if its wave's time has come.
     ensures asks { (row : TheRow) → Contains rows.now row → Asks result row ↔ MayAsk max_failed rows.now row }
 {
     gate_at(rows, max_failed, next_wave(rows))

@@ -15,7 +15,7 @@ use std::alloc::Global;
 ///
 /// # Errors
 ///
-/// `Refused` where memory ran out, and nothing was put. `Output`: the sink failed. What it has then is unspecified.
+/// `Refused` if memory ran out, and nothing was put. `Output`: the sink failed. What it has then is unspecified.
 pub fn write_header<S: Sink>(alloc: Global, sink: &mut S) -> Result<(), RecordError>
     ensures written { OnOk result (S.takes sink.old sink.new file_header) }
     ensures silent { IfErr result (λ e. e ≢ RecordError.Output → sink.new ≡ sink.old) }
@@ -32,7 +32,7 @@ pub fn write_header<S: Sink>(alloc: Global, sink: &mut S) -> Result<(), RecordEr
 ///
 /// # Errors
 ///
-/// `Refused`, by what refuses the packet, or where memory ran out, and nothing was put. `Output`, only for a packet that nothing refuses: the
+/// `Refused`, by what refuses the packet, or if memory ran out, and nothing was put. `Output`, only for a packet that nothing refuses: the
 /// sink failed. What it has then is unspecified.
 pub fn write_record<S: Sink>(
     alloc: Global,

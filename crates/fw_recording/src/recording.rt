@@ -23,7 +23,7 @@ const MILLISECOND: u64 = 1_000_000;
 ///
 /// # Errors
 ///
-/// `TimePast` or `TooLong`, of the first datagram that makes no record. `OutOfMemory` also where none does.
+/// `TimePast` or `TooLong`, of the first datagram that makes no record. `OutOfMemory` also if none does.
 pub fn capture_of(alloc: Global, sent: &[Datagram]) -> Result<Vec<u8>, AppendError>
     ensures capture { IfOk result (λ capture. capture.items ≡ capture_bytes (run_records sent.now)) }
     ensures refused { IfErr result (λ e. (e ≡ AppendError.OutOfMemory) ⊎ SomeRefused (run_records sent.now) e) }

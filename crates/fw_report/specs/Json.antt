@@ -26,7 +26,7 @@ abbrev pub meter_data : MeterEntry → Data
 meter_data meter = object (member (codes "active") (active_data meter) (member (codes "meter") (number_data meter.meter)
     (member (codes "status") (number_data (status_number meter.status)) no_members)))
 
--- the number of the event that was refused, from 0 on, and why it was; null where none was
+-- the number of the event that was refused, from 0 on, and why it was; null if none was
 abbrev pub refusal_data : Option Refusal → Data
 refusal_data None = null
 refusal_data (Some refusal) = object (member (codes "cause") (string (cause_name refusal.cause)) (member (codes "event") (number_data refusal.at) no_members))

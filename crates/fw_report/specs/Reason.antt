@@ -1,5 +1,5 @@
--- Public vocabulary: why a meter refused an initiate that a datagram answers (IEC 62056-6-2, image_transfer_initiate; own rules of which images
--- can be initiated).
+-- Public vocabulary: why a meter refused an initiate that a datagram answers (IEC 62056-6-2, image_transfer_initiate; own rules of which
+-- images can be initiated).
 use Rattle.std.specs.Prelude.{◌≡◌, ℕ, ◌<◌, ◌≤◌, ◌==◌, ◌⊎◌, if◌then◌else◌, List, [], ◌∷◌, ◌++◌, take, length, slice_get, slice_index_or, Option, Some, None, codes, decimal}
 use Rattle.fw_names.specs.Name.{is_risen}
 use Rattle.fw_apdu.specs.Cosem.{other_reason}
@@ -48,7 +48,7 @@ abbrev pub HasReasonIn : State → Option Datagram → Option Reason → Type 0
 HasReasonIn world None r = r ≡ None
 HasReasonIn world (Some d) r = HasReasonAt d.direction d.bytes (meter_at world d.meter) r
 
--- where the event brings one to a meter, as it is then
+-- if the event brings one to a meter, as it is then
 abbrev pub HasReason : State → Event → Option Reason → Type 0
 HasReason world (deliver number) r = HasReasonIn world (slice_get world.sent number) r
 HasReason world event r = r ≡ None

@@ -12,7 +12,7 @@ use std::alloc::{AllocError, Global};
 /// What the network did with a datagram.
 #[derive(Clone, Copy)]
 pub(crate) struct Course {
-    /// How often it came to its addressee: 0 where it was lost.
+    /// How often it came to its addressee: 0 if it was lost.
     pub(crate) times: usize,
     /// Whether one that was sent after it came before it.
     pub(crate) late: bool,
@@ -122,7 +122,7 @@ fn with_one_more(course: Course, stopped: bool, overtaken: bool) -> Course
     }
 }
 
-/// Appends what the network did with a datagram, and nothing where it came once.
+/// Appends what the network did with a datagram, and nothing if it came once.
 pub(crate) fn append_course(text: &mut String, course: Course) -> Result<(), AllocError>
     ensures { OnOk result (string_bytes text.new ≡ string_bytes text.old ++ course_words course) }
 {

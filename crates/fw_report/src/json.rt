@@ -138,7 +138,7 @@ fn active_value(alloc: Global, meter: &MeterEntry) -> Result<Value, AllocError>
     })
 }
 
-/// The value of an event that was refused, and null where none was.
+/// The value of an event that was refused, and null if none was.
 fn refusal_value(alloc: Global, refusal: Option<Refusal>) -> Result<Value, AllocError>
     ensures { IfOk result (λ v. view v ≡ refusal_data refusal) }
 {

@@ -18,7 +18,7 @@ use fw_world::{Datagram, Direction};
 use fw_wrapper::split;
 use std::alloc::{AllocError, Global};
 
-/// What the name of an image tells: its campaign, and its release, which is 0 where it has none.
+/// What the name of an image tells: its campaign, and its release, which is 0 if it has none.
 #[derive(Clone, Copy)]
 pub struct Title {
     pub campaign: CampaignId,

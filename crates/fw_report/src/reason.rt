@@ -140,7 +140,7 @@ fn reason_asked(alloc: Global, running: u32, bytes: &[u8]) -> Result<Option<Reas
     }
 }
 
-/// Why a meter that runs this release can't be initiated so, if it can't, and nothing where no initiate is asked for.
+/// Why a meter that runs this release can't be initiated so, if it can't, and nothing if no initiate is asked for.
 fn reason_of(running: u32, message: Message) -> Option<Reason>
     ensures { result ≡ reason_of running message }
 {

@@ -45,7 +45,7 @@ pub(crate) struct MeterEntry {
     pub(crate) head: u32,
     /// The serial number of that campaign, or 0.
     pub(crate) serial: u32,
-    /// The release of the image, and 0 where it has none.
+    /// The release of the image, and 0 if it has none.
     pub(crate) release: u32,
     /// The bytes of the image.
     pub(crate) size: u32,

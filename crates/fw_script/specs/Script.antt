@@ -156,7 +156,7 @@ script_of setup events =
 abbrev pub no_script : Script
 no_script = record { heads = []; meters = []; events = [] }
 
--- this script, where no event stands before it
+-- this script, if no event stands before it
 abbrev pub before_all : List Event → Script → Option Script
 before_all [] script = Some script
 before_all (event ∷ events) script = None

@@ -14,7 +14,7 @@ use std::alloc::Global;
 ///
 /// # Errors
 ///
-/// `BadFates` where they aren't 1 to 4,096 of these letters, and `OutOfMemory`.
+/// `BadFates` if they aren't 1 to 4,096 of these letters, and `OutOfMemory`.
 pub fn read_fates(alloc: Global, letters: &[u8]) -> Result<Vec<Fate>, Fault>
     ensures ok { IfOk result (λ fates. SpellsFates letters.now fates.items) }
     ensures bad_fates { result ≡ Err Fault.BadFates → ¬ SpellsSome letters.now }

@@ -88,7 +88,7 @@ pub(crate) fn item_of(alloc: Global, line: &[u8]) -> Result<Option<Item>, AllocE
     Ok(event_line(first, rest).map(Item::Event))
 }
 
-/// The event that a line says, where its words say one that holds no list.
+/// The event that a line says, if its words say one that holds no list.
 fn event_line(first: &[u8], rest: &[u8]) -> Option<Event>
     ensures { option_map (λ event. events_item (event_of event ∷ [])) result ≡ event_line first.now (words_behind rest.now) }
 {
@@ -376,7 +376,7 @@ fn turn_line(rest: &[u8]) -> Option<Event>
     Some(Event::Turn(meter_id(meter)))
 }
 
-/// Nothing, where no word is left.
+/// Nothing, if no word is left.
 fn ends(rest: &[u8]) -> Option<()>
     ensures { result ≡ at_end (words_behind rest.now) }
 {

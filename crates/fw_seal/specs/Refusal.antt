@@ -1,4 +1,4 @@
--- What refuses an APDU that is to be sealed, as a list of rows, each a test and the error that it gives. Where several would apply, the
+-- What refuses an APDU that is to be sealed, as a list of rows, each a test and the error that it gives. If several would apply, the
 -- first of them counts. And what the refusal of bytes says that are to be opened.
 use Rattle.std.specs.Prelude.{◌≡◌, ℕ, ◌-◌, ◌^◌, Bool, List, [], ◌∷◌, length, is_none, nat_lt, nat_le, Option, Some, None, if◌then◌else◌}
 use Rattle.fw_seal.specs.declared.error.SealError.{SealError}
@@ -24,14 +24,14 @@ refusal_rows apdu counters =
 abbrev pub refusal_of : List ℕ → CounterRange → Option SealError
 refusal_of apdu counters = first_applying (refusal_rows apdu counters)
 
--- the error is the refusal; `OutOfMemory` comes only where there is none
+-- the error is the refusal; `OutOfMemory` comes only if there is none
 abbrev pub IsRefusal : Option SealError → SealError → Type 0
 IsRefusal refusal OutOfMemory = refusal ≡ None
 IsRefusal refusal UnknownService = refusal ≡ Some UnknownService
 IsRefusal refusal TooLong = refusal ≡ Some TooLong
 IsRefusal refusal CounterSpent = refusal ≡ Some CounterSpent
 
--- what holds where bytes are not opened: the first of these where they are no sealing, the second where memory was refused
+-- what holds where bytes are not opened: the first of these if they are no sealing, the second if memory was refused
 abbrev pub IfRefused : OpenError → Type 0 → Type 0 → Type 0
 IfRefused opening.NotSealed A B = A
 IfRefused opening.OutOfMemory A B = B

@@ -27,7 +27,7 @@ pub record IsTaken (before after : CounterRange) : Type 0 where
   pub left : before.next < before.end
   pub goes_on : after ≡ record before { next = before.next + 1 }
 
--- the tag of the sealings of APDUs with this tag, where there are such: of GET-request, SET-request, ACTION-request, GET-response,
+-- the tag of the sealings of APDUs with this tag, if there are such: of GET-request, SET-request, ACTION-request, GET-response,
 -- SET-response and ACTION-response it is that of glo-get-request, and so on
 abbrev pub sealed_tag : ℕ → Option ℕ
 sealed_tag tag =

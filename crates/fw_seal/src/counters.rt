@@ -25,7 +25,7 @@ impl Model for Counters {
 }
 
 impl Counters {
-    /// The counters from `next` on and below `end`, none where that isn't above it. The caller has reserved them: no other value has any of
+    /// The counters from `next` on and below `end`, none if that isn't above it. The caller has reserved them: no other value has any of
     /// them, nor ever had, for a link whose keys and title this one is used with, over restarts and power cuts too.
     pub fn reserved(next: u32, end: u32) -> Counters
         ensures { result ≡ record { next = next; end = end } }

@@ -7,7 +7,7 @@ use std::alloc::AllocError;
 use std::fmt;
 use thiserror::Error;
 
-/// The refusals of `seal`. Where several would apply, the first of them comes.
+/// The refusals of `seal`. If several would apply, the first of them comes.
 #[derive(Debug, Drop, Error)]
 pub enum SealError {
     /// The bytes begin no request and no response of GET, SET or ACTION.

@@ -55,7 +55,7 @@ pub struct Opened {
 }
 
 impl Link {
-    /// The link under these keys between the end with the title `own`, which this one is, and the end with the title `other`; `None` where
+    /// The link under these keys between the end with the title `own`, which this one is, and the end with the title `other`; `None` if
     /// the titles are the same, since both ends would seal with the same initialization vectors then.
     pub fn new(
         encryption: &[u8; 16],
@@ -87,7 +87,7 @@ impl Link {
     ///
     /// # Errors
     ///
-    /// `UnknownService`, `TooLong` or `CounterSpent`: the first that applies. `OutOfMemory` only where none does. No counter is taken then.
+    /// `UnknownService`, `TooLong` or `CounterSpent`: the first that applies. `OutOfMemory` only if none does. No counter is taken then.
     pub fn seal(
         &self,
         alloc: Global,
@@ -121,7 +121,7 @@ impl Link {
     ///
     /// # Errors
     ///
-    /// `NotSealed`: the bytes are no sealing of an APDU under the link's keys by the other end. `OutOfMemory` only where they have the form
+    /// `NotSealed`: the bytes are no sealing of an APDU under the link's keys by the other end. `OutOfMemory` only if they have the form
     /// of one.
     pub fn open(&self, alloc: Global, bytes: &[u8]) -> Result<Opened, OpenError>
         ensures opens { IfOk result (λ o. IsSealing self.now.keys self.now.other o.counter o.apdu.items bytes.now) }

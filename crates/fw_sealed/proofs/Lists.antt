@@ -30,7 +30,7 @@ same_first a b xs ys e = cc
 same_rest : {X : Type 0} (a b : X) (xs ys : List X) → a ∷ xs ≡ b ∷ ys → xs ≡ ys
 same_rest a b xs ys e = cc
 
--- beginnings of one length are the same where all is, and so is what follows them
+-- beginnings of one length are the same if all is, and so is what follows them
 pub same_parts : (a b xs ys : List ℕ) → length a ≡ length b → a ++ xs ≡ b ++ ys → (a ≡ b) × (xs ≡ ys)
 same_parts [] [] xs ys size e = (refl, e)
 same_parts [] (y ∷ b) xs ys size e = absurd (omega (arith, size))

@@ -45,7 +45,7 @@ LinksStaySealed =
     (addresses : ℕ → List SocketAddr) (links : Links) (beginning now : SealedField) (moves : List SealedMove)
     → IsSealedBeginning beginning → SealedMovesLead addresses links beginning moves now → IsSealed links now
 
--- where titles and counters have their sizes, counters that rise make vectors that differ
+-- if titles and counters have their sizes, counters that rise make vectors that differ
 abbrev pub IvsNeverRepeat : Type 0
 IvsNeverRepeat =
     (addresses : ℕ → List SocketAddr) (links : Links) (beginning now : SealedField) (moves : List SealedMove)
@@ -68,7 +68,7 @@ PortsKeepHeads =
     → IsSealed links s → ArePeersOfHead links number leader peers → OpensOnly peers s.arrived (acts_of steps)
     → CameToHead s.field number leader steps
 
--- A sealing port is such a port, by what `fw_sealport` has as a law of it: where its links are those of these peers, and what came to the
+-- A sealing port is such a port, by what `fw_sealport` has as a law of it: if its links are those of these peers, and what came to the
 -- port below it is among these bytes.
 abbrev pub PortsOpenOnly : Type 0 → Type 0
 PortsOpenOnly Report =
@@ -105,7 +105,7 @@ SealedLeadingIsMoves =
     → IsSealed links s → ArePeersOfHead links number start peers → OpensOnly peers s.arrived (acts_of steps)
     → (new : Field) × MovesLead addresses s.field (moves_of number steps) new × (new.heads number ≡ Some now) × DoesAll number start steps new
 
--- in a field that moves behind sealing ports lead to, a head end behind such a port reports a row as done only where it is done safely
+-- in a field that moves behind sealing ports lead to, a head end behind such a port reports a row as done only if it is done safely
 abbrev pub SealedToldIsTrue : Type 0
 SealedToldIsTrue =
     (addresses : ℕ → List SocketAddr) (links : Links) (beginning s : SealedField) (moves : List SealedMove) (number : ℕ) (start now : Leader)

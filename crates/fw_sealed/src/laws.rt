@@ -29,7 +29,7 @@ ghost use Rattle.fw_sealed.specs.Laws.{
   SealedToldIsTrue,
 };
 
-/// Whatever comes from the network, where nothing of it was forged, daemons behind sealing ports make moves of a field.
+/// Whatever comes from the network, if nothing of it was forged, daemons behind sealing ports make moves of a field.
 pub fn sealed_moves_are_moves()
     ensures { SealedMovesAreMoves }
 {

@@ -32,7 +32,7 @@ OnlyActiveName =
     (a : Answer) → HasSizes a
     → ((bytes : List ℕ) × (value_of_answer a ≡ octet_string bytes) × ((length bytes ≡ 41) ⊎ (length bytes ≡ 45))) ↔ ((name : Name) × (a ≡ answer.ActiveName name))
 
--- A GET reads it exactly where it is of attribute 2, value, of the active firmware identifier, a Data object.
+-- A GET reads it exactly if it is of attribute 2, value, of the active firmware identifier, a Data object.
 abbrev pub OnlyIdentifier : Type 0
 OnlyIdentifier =
     (d : Descriptor)

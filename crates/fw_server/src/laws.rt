@@ -13,7 +13,7 @@ pub fn only_active_name()
     ensures { OnlyActiveName }
 {}
 
-/// A GET reads the active name exactly where it is of attribute 2, value, of the active firmware identifier.
+/// A GET reads the active name exactly if it is of attribute 2, value, of the active firmware identifier.
 pub fn only_identifier()
     ensures { OnlyIdentifier }
 {}

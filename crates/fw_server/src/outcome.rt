@@ -19,7 +19,7 @@ pub enum Answer {
     LogicalName(LogicalName),
     /// In bytes: a double-long-unsigned.
     BlockSize(u32),
-    /// One bit a block, set where it is there: a bit-string.
+    /// One bit a block, set if it is there: a bit-string.
     TransferredBlocks(Bits),
     /// The lowest number of a block that isn't there, or else the number of blocks: a double-long-unsigned.
     FirstNotTransferred(u32),

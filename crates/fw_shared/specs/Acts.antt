@@ -38,12 +38,12 @@ pub record IsMarked (old new : Seat) : Type 0 where
   pub mark : new ≡ record old { own = old.own + 1; seen = new.seen; allowance = old.allowance - 1 }
   pub seen : old.seen < new.seen
 
--- a mark just where a meter is done
+-- a mark just if a meter is done
 abbrev pub MarksDone : News → Seat → Seat → Type 0
 MarksDone (news.Done campaign meter) old new = IsMarked old new
 MarksDone told old new = new ≡ old
 
--- the seat of a worker that let a head end hear the datagram of this number: one receipt more, and a mark just where a meter is done
+-- the seat of a worker that let a head end hear the datagram of this number: one receipt more, and a mark just if a meter is done
 abbrev pub HasHeard : News → Seat → ℕ → Seat → Type 0
 HasHeard told old number new = (event : ℕ) × MarksDone told (noted old event (deliver number)) new
 
@@ -72,7 +72,7 @@ pub record MeterServes (old : meter.State) (d : Datagram) (sent : List Datagram)
 abbrev pub is_live_of : ℕ → Row → Bool
 is_live_of meter row = (row.client.meter == meter) && not (has_ended row.stage)
 
--- the live row of the meter, the first where there are more, goes on to the next, and all other rows stay
+-- the live row of the meter, the first if there are more, goes on to the next, and all other rows stay
 pub record RowGoesOn (meter : ℕ) (old : List Row) (row next : Row) (new : List Row) : Type 0 where
   pub at : ℕ
   pub first : position (is_live_of meter) old ≡ Some at

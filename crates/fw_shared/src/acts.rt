@@ -460,7 +460,7 @@ fn image_of(book: &Book, campaign: CampaignId) -> &[u8]
 ///
 /// # Errors
 ///
-/// `NoSuchDatagram`, `NoSuchActor` where it is for another addressee, or `OutOfMemory`.
+/// `NoSuchDatagram`, `NoSuchActor` if it is for another addressee, or `OutOfMemory`.
 pub(crate) fn addressed<R: Wait>(
     rt: &R,
     alloc: Global,

@@ -103,7 +103,7 @@ impl Board {
         receipts
     }
 
-    /// Ends the board with a seat: the count, and the receipts of the seat. Where all other seats were joined into this one, the
+    /// Ends the board with a seat: the count, and the receipts of the seat. If all other seats were joined into this one, the
     /// count is the seat's own marks, which for the first seat begin with those of the start.
     pub fn close(self, seat: Seat) -> (u64, Vec<Receipt>)
         requires { seat.board ≡ self.id }

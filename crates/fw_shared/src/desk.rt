@@ -90,7 +90,7 @@ impl Desk {
     ///
     /// # Errors
     ///
-    /// `NoSuchActor` where the meter stands in no campaign of the book, or `OutOfMemory`. Nothing was changed.
+    /// `NoSuchActor` if the meter stands in no campaign of the book, or `OutOfMemory`. Nothing was changed.
     pub fn tick<R: Wait>(
         &self,
         rt: &R,
@@ -123,7 +123,7 @@ impl Desk {
     ///
     /// # Errors
     ///
-    /// `NoSuchDatagram`, `NoSuchActor` where the datagram is for another addressee, or `OutOfMemory`. Nothing was changed.
+    /// `NoSuchDatagram`, `NoSuchActor` if the datagram is for another addressee, or `OutOfMemory`. Nothing was changed.
     pub fn hear<R: Wait>(
         &self,
         rt: &R,

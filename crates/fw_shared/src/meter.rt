@@ -62,7 +62,7 @@ impl<S: ImageStore + Drop> SharedMeter<S> {
     ///
     /// # Errors
     ///
-    /// `NoSuchDatagram`, `NoSuchActor` where the datagram is for another addressee, or `OutOfMemory`. Nothing was changed.
+    /// `NoSuchDatagram`, `NoSuchActor` if the datagram is for another addressee, or `OutOfMemory`. Nothing was changed.
     pub fn serve<R: Wait>(
         &self,
         rt: &R,

@@ -110,7 +110,7 @@ impl Tally {
         share.left += left;
     }
 
-    /// Ends the tally with a share: the count. Where all other shares were joined into this one, it is just the share's own marks,
+    /// Ends the tally with a share: the count. If all other shares were joined into this one, it is just the share's own marks,
     /// which for the first share begin with those of the start.
     pub fn close(self, share: Share) -> u64
         requires { share.tally ≡ self.id }

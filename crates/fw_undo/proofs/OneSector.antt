@@ -59,7 +59,7 @@ later a from xs behind =
     let place : a ≡ from + (a - from) = omega arith in
     ap (λ (n : ℕ). drop n xs) place ∙ sym (drop-drop (a - from) from xs)
 
--- where what follows a sector is the same, so is each later sector
+-- if what follows a sector is the same, so is each later sector
 later_sector : (at s end : ℕ) (xs ys : List ℕ) → end ≤ 512 * s + 512 - at → drop end xs ≡ drop end ys
     → (k : ℕ) → s < k → in_sector at k xs ≡ in_sector at k ys
 later_sector at s end xs ys within same k after =
@@ -127,7 +127,7 @@ pub one_within : (at s end : ℕ) (xs ys : List ℕ) → length xs ≡ length ys
     → take (min (512 * s - at) (length xs)) xs ≡ take (min (512 * s - at) (length xs)) ys → DifferInOneSector at xs ys
 one_within at s end xs ys size within rest front = one_alone at s end xs ys within rest (λ k _ before. earlier_sector at s xs ys size front k before)
 
--- where one sector alone differs, what follows it is the same
+-- if one sector alone differs, what follows it is the same
 pub rest_same : (at s : ℕ) (xs ys : List ℕ) → length xs ≡ length ys → DifferInOneSector at xs ys → in_sector at s xs ≢ in_sector at s ys
     → drop (min (512 * s + 512 - at) (length xs)) xs ≡ drop (min (512 * s + 512 - at) (length xs)) ys
 rest_same at s xs ys size one differ = ext_get_or 0 (drop end xs) (drop end ys) sizes byte

@@ -86,7 +86,7 @@ pub(crate) fn is_cut_at_end(at: u64, now: &[u8], before: &[u8], after: &[u8]) ->
     is_cut(at, now, old, new)
 }
 
-/// Fills a part with the first bytes of another, and with zeros where that has fewer.
+/// Fills a part with the first bytes of another, and with zeros if that has fewer.
 fn fill(out: &mut [u8], part: &[u8])
     ensures { out.new ≡ resized part.now (length out.old) }
 {

@@ -79,7 +79,7 @@ impl<'a> HeaderWrite<'a> {
         size as u64 <= self.last_at && self.at <= self.last_at - size as u64
     }
 
-    /// The bytes of the journal of the write, and `None` where no journal can have it.
+    /// The bytes of the journal of the write, and `None` if no journal can have it.
     pub fn to_bytes(&self) -> Option<JournalBytes>
         ensures some { IfSome result (λ bytes. bytes ≡ journal_bytes self.now) }
         ensures fits { IfSome result (λ _. IsWrite self.now) }
@@ -111,7 +111,7 @@ impl<'a> HeaderWrite<'a> {
         bytes
     }
 
-    /// The write whose journal has these bytes, and `None` where they are no whole journal.
+    /// The write whose journal has these bytes, and `None` if they are no whole journal.
     pub fn from_bytes(bytes: &'a [u8]) -> Option<HeaderWrite<'a>>
         ensures some { IfSome result (λ write. bytes.now ≡ journal_bytes write) }
         ensures fits { IfSome result IsWrite }
@@ -173,7 +173,7 @@ impl<'a> HeaderWrite<'a> {
         }
     }
 
-    /// What it changes where nothing outside a sector does. The length of the last part stays.
+    /// What it changes if nothing outside a sector does. The length of the last part stays.
     fn change_in(&self, sector: u64) -> Option<Change>
         requires write { IsWrite self.now }
         requires size { length self.now.last_after ≡ length self.now.last_before }
@@ -214,7 +214,7 @@ impl<'a> HeaderWrite<'a> {
         }
     }
 
-    /// What it changes where its first part stays, and the length of the last one.
+    /// What it changes if its first part stays, and the length of the last one.
     fn change_of_last(&self, likely: &mut u64) -> Change
         requires write { IsWrite self.now }
         requires same { self.now.after ≡ self.now.before }

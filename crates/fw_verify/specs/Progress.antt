@@ -15,6 +15,6 @@ pub record Progress : Type 0 where
 abbrev pub IsDigesting : Progress → List ℕ → Type 0
 IsDigesting progress contents = Holds256 progress.state (take progress.taken contents)
 
--- how many reads the next slice takes: none where all bytes are taken
+-- how many reads the next slice takes: none if all bytes are taken
 abbrev pub reads_left : Progress → ℕ
 reads_left progress = if nat_lt progress.taken progress.size then 1 else 0

@@ -61,12 +61,12 @@ impl Digesting {
         self.taken
     }
 
-    /// Takes the next slice: at most 4,096 bytes, in one read. Where all bytes are taken, nothing is read. Returns whether
+    /// Takes the next slice: at most 4,096 bytes, in one read. If all bytes are taken, nothing is read. Returns whether
     /// all are taken then. No memory is taken.
     ///
     /// # Errors
     ///
-    /// `StoreFault` where the device failed. As many bytes as before are then taken.
+    /// `StoreFault` if the device failed. As many bytes as before are then taken.
     pub fn step<S: ImageStore>(&mut self, store: &mut S) -> Result<bool, StoreFault>
         requires { self.old.size ≤ (S.known store.old).capacity }
         ensures slot { self.new.slot ≡ self.old.slot }
@@ -106,7 +106,7 @@ impl Digesting {
 ///
 /// # Errors
 ///
-/// `StoreFault` where the device failed. It is not asked again then.
+/// `StoreFault` if the device failed. It is not asked again then.
 pub fn digest<S: ImageStore>(store: &mut S, slot: Slot, size: u32) -> Result<[u8; 32], StoreFault>
     requires { size ≤ (S.known store.old).capacity }
 

@@ -6,7 +6,7 @@ use Rattle.fw_workers.specs.declared.error.RoundsError.{RoundsError}
 use Rattle.fw_workers.specs.declared.error.RoundsError.TheVariants as unaccounted
 use Rattle.fw_workers.specs.Ends.{ComesFirst, ComesLast, End, EndsAs, EndsUnder, IsLowestRefusal, IsReason, IsUnstarted, lowest_refusal}
 
--- where none was refused, each share may end well
+-- if none was refused, each share may end well
 all_well : {H : Type 0} (may_end : H → End → Type 0) (shares : List H) (ends : List End) → AllZip (EndsAs may_end) shares ends
     → lowest_refusal ends ≡ None → All (λ share. may_end share (Ok tt)) shares
 all_well may_end [] [] each none = λ k d lt. absurd (omega arith)
@@ -35,7 +35,7 @@ lowest_may done may_end (share ∷ shares) (Ok fine ∷ ends) refusal each is =
       | inr refused ↦ cc
     ]
 
--- where there is a report, each share may end well
+-- if there is a report, each share may end well
 well : {H R : Type 0} (may_end : H → End → Type 0) (shares : List H) (ends : List End) (low : Option RoundsError) (told : Result R RoundsError)
     → AllZip (EndsAs may_end) shares ends → lowest_refusal ends ≡ low → IfSome low (λ e. IsErrOf told e)
     → IfOk told (λ _. All (λ share. may_end share (Ok tt)) shares)
@@ -43,7 +43,7 @@ well may_end shares ends low (Err refusal) each is refused = tt
 well may_end shares ends None (Ok report) each is refused = all_well may_end shares ends each is
 well may_end shares ends (Some refusal) (Ok report) each is refused = cc
 
--- where there is none, the reason came first, or it is the lowest refusal, or all ended well and it came last
+-- if there is none, the reason came first, or it is the lowest refusal, or all ended well and it came last
 lowest : {H R : Type 0} (done : ℕ) (may_end : H → End → Type 0) (shares : List H) (ends : List End) (low : Option RoundsError) (told : Result R RoundsError)
     → AllZip (EndsAs may_end) shares ends → lowest_refusal ends ≡ low → IfSome low (λ e. IsErrOf told e) → (low ≡ None → IfErr told ComesLast)
     → IfErr told (IsReason done may_end shares)
@@ -71,7 +71,7 @@ unstarted_first done may_end shares unaccounted.ThreadRefused is = inl tt
 unstarted_first done may_end shares unaccounted.OutOfMemory is = inl tt
 unstarted_first done may_end shares unaccounted.GateShut is = absurd is
 
--- a shut gate is reported of shares that end so only where one may shut
+-- a shut gate is reported of shares that end so only if one may shut
 lowest_shut : {H : Type 0} (may_shut : Type 0) (shares : List H) → IsLowestRefusal (λ _ end. EndsUnder may_shut end) shares unaccounted.GateShut → may_shut
 lowest_shut may_shut [] is = absurd is
 lowest_shut may_shut (share ∷ shares) is = elim is [ inl may ↦ may.1 refl | inr lower ↦ lowest_shut may_shut shares lower.1 ]

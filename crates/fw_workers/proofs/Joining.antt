@@ -7,7 +7,7 @@ use Rattle.std.proofs.Common.{◌≡◌, ℕ, suc, ◌<◌, List, [], ◌∷◌,
 use Rattle.std.proofs.lemmas.List.{map_push}
 use Rattle.std.proofs.lemmas.List.Elements.{All-tail}
 
--- where each result is as its promise says of it, so are all, place by place
+-- if each result is as its promise says of it, so are all, place by place
 module _ {T P A B : Type 0} (g : Promise.Ghosts P T) (of : P → A) (part : T → B) (R : A → B → Type 0)
     (says : (promise : P) (result : T) → g.kept_by promise result → R (of promise) (part result)) where
   pub all_kept : (n : ℕ) (handles : List (PromisedHandle T P)) (left : List T) → n ≡ length handles → length left ≡ length handles
@@ -23,7 +23,7 @@ module _ {T P A B : Type 0} (g : Promise.Ghosts P T) (of : P → A) (part : T �
         all_kept (length handles) handles left refl (omega arith) later,
       )
 
--- where none is left to start, all were started
+-- if none is left to start, all were started
 pub all_started : {J A B : Type 0} (R : A → B → Type 0) (of : J → A) (started all : List A) (rest : List J) (ends : List B)
     → length rest ≡ 0 → started ++ map of rest ≡ all → AllZip R started ends → AllZip R all ends
 all_started R of started all [] ends none was each = subst (λ xs. AllZip R xs ends) (sym (append-nil started) ∙ was) each

@@ -69,7 +69,7 @@ world_runs_on opening old new events at event inside is run step =
     map_more event_of events at event inside ∙ ap (λ (e : Given). events_of (take at events) ++ event_of e ∷ []) (sym is) in
     subst (λ (es : List Event). Run opening es new) (sym more) (world_goes_on opening old new (events_of (take at events)) (event_of event) run step)
 
--- where a given event was refused, that is reported
+-- if a given event was refused, that is reported
 pub told : (setup : Setup) (events : List Given) (number : ℕ) (world : State) (reason : StepError) → IsStopped setup events (stopped.Event number world reason)
     → TellsOfEvent setup events (of_event number reason)
 told setup events number world cause.OutOfMemory stop = tt

@@ -8,8 +8,8 @@ use Rattle.fw_workers.specs.declared.error.RehearseError.TheVariants as refused
 use Rattle.fw_workers.specs.Deals.{AreWorkers}
 use Rattle.fw_workers.specs.Refusals.{TellsOfEvent}
 
--- There is a result only for a worker count, and for any other number it is `BadSetup`. For a worker count it is `BadSetup` only where
--- no world can be made of the setup; where it is refused otherwise, one can. `Event` tells of a given event that is refused.
+-- There is a result only for a worker count, and for any other number it is `BadSetup`. For a worker count it is `BadSetup` only if
+-- no world can be made of the setup; if it is refused otherwise, one can. `Event` tells of a given event that is refused.
 pub record BeginsFor {A : Type 0} (setup : Setup) (given : List Given) (workers : ℕ) (result : Result A RehearseError) : Type 0 where
   pub workers_are : OnOk result (AreWorkers workers)
   pub bad_setup : IsErrOf result refused.BadSetup → AreWorkers workers → ¬ IsSetup setup

@@ -51,7 +51,7 @@ abbrev pub IsOfEvent : RoundsError → Type 0
 IsOfEvent unaccounted.ThreadRefused = ⊥
 IsOfEvent other = Unit {0}
 
--- it ends for a reason of an event of the worker at most, and for a shut gate only where one may shut
+-- it ends for a reason of an event of the worker at most, and for a shut gate only if one may shut
 abbrev pub EndsUnder : {R : Type 0} → Type 0 → Result R RoundsError → Type 0
 EndsUnder may_shut end = IfErr end IsOfEvent × (IsErrOf end unaccounted.GateShut → may_shut)
 

@@ -70,7 +70,7 @@ pub record IsBarred (setup : Setup) (events : List Given) (number : ℕ) : Type 
   pub other : reason ≢ cause.OutOfMemory
   pub stopped_is : IsStopped setup events (stopped.Event number world reason)
 
--- where a given event is reported, it is refused so
+-- if a given event is reported, it is refused so
 abbrev pub TellsOfEvent : Setup → List Given → RehearseError → Type 0
 TellsOfEvent setup events (refused.Event number) = IsBarred setup events number
 TellsOfEvent setup events other = Unit {0}

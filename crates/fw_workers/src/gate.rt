@@ -4,7 +4,7 @@ ghost use Rattle.std.specs.Prelude.{◌≡◌, false};
 
 /// Who may go on, and when.
 pub trait Gate {
-    /// That a gate of this type may shut. Where a type says nothing of it, it may.
+    /// That a gate of this type may shut. If a type says nothing of it, it may.
     ghost may_shut: { Type 0 } = { Unit {0} };
 
     /// Whether a worker may make its next event. It is called before each event of the worker, and may keep it waiting; no lock is

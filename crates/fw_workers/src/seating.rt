@@ -148,7 +148,7 @@ fn marks_of(setup: &Setup, world: &World) -> Result<u64, RoundsError>
     }
 }
 
-/// Joins the seats into this one: the receipts of each worker, in order. Where workers were refused, the lowest worker's refusal is
+/// Joins the seats into this one: the receipts of each worker, in order. If workers were refused, the lowest worker's refusal is
 /// given.
 ///
 /// # Errors

@@ -30,7 +30,7 @@ pub struct SharedWorld {
     pub(crate) board: Board,
 }
 
-// Written out: where a shared world is let go, that is one call, and none of its parts is looked into.
+// Written out, so that letting go of it is one call in a proof. A derived `Drop` is unfolded there field by field, which takes minutes.
 impl Drop for SharedWorld {
     fn drop(self) {
         let SharedWorld {
@@ -106,7 +106,7 @@ impl SharedWorld {
     ///
     /// # Errors
     ///
-    /// `Mismatch` where there is no such head end, or where the meter stands in no campaign of it; `GateShut`, or `OutOfMemory`.
+    /// `Mismatch` if there is no such head end, or if the meter stands in no campaign of it; `GateShut`, or `OutOfMemory`.
     /// Nothing was changed except what the seat has seen.
     pub fn tick<R: Wait, G: Gate>(
         &self,
@@ -139,7 +139,7 @@ impl SharedWorld {
     ///
     /// # Errors
     ///
-    /// `Mismatch` where there is no such meter, or where no datagram of this number was sent to it; `GateShut`, or `OutOfMemory`.
+    /// `Mismatch` if there is no such meter, or if no datagram of this number was sent to it; `GateShut`, or `OutOfMemory`.
     /// Nothing was changed except what the seat has seen.
     pub fn serve<R: Wait, G: Gate>(
         &self,
@@ -168,7 +168,7 @@ impl SharedWorld {
     ///
     /// # Errors
     ///
-    /// `Mismatch` where there is no such head end, where no datagram of this number was sent to it, or where no mark is left to the
+    /// `Mismatch` if there is no such head end, if no datagram of this number was sent to it, or if no mark is left to the
     /// seat; `GateShut`, or `OutOfMemory`. Nothing was changed except what the seat has seen.
     pub fn hear<R: Wait, G: Gate>(
         &self,
@@ -200,7 +200,7 @@ impl SharedWorld {
     ///
     /// # Errors
     ///
-    /// `Mismatch` where there is no such meter; `GateShut`, or `OutOfMemory`. Nothing was changed except what the seat has seen.
+    /// `Mismatch` if there is no such meter; `GateShut`, or `OutOfMemory`. Nothing was changed except what the seat has seen.
     pub fn turn<R: Wait, G: Gate>(
         &self,
         rt: &R,

@@ -56,8 +56,8 @@ pub trait Share {
 ///
 /// # Errors
 ///
-/// The first of these that applies: `OutOfMemory`, `ThreadRefused` where a thread could not be started, or `Mismatch` where 2^63 rows
-/// are done, and no worker began; the lowest worker's, `GateShut`, `OutOfMemory` or `Mismatch`; and where all ended well `Mismatch`, where
+/// The first of these that applies: `OutOfMemory`, `ThreadRefused` if a thread could not be started, or `Mismatch` if 2^63 rows
+/// are done, and no worker began; the lowest worker's, `GateShut`, `OutOfMemory` or `Mismatch`; and where all ended well `Mismatch`, if
 /// what they left isn't what their receipts say, or `OutOfMemory`.
 pub fn work<R: Threads + Wait + Sync, G: Gate + Sync, H: Share + Send + Drop>(
     rt: &R,

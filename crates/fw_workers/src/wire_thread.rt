@@ -67,7 +67,7 @@ impl WireThread {
         Ok((WireThread { orders, arrivals }, wire_loop))
     }
 
-    /// Passes a datagram on to the wire thread, which sends it. It is lost where that thread has ended.
+    /// Passes a datagram on to the wire thread, which sends it. It is lost if that thread has ended.
     pub(crate) fn send<R: Wait>(&self, rt: &R, datagram: LinkDatagram) -> Result<(), RoundsError>
         ensures { IfErr result (λ e. e ≡ RoundsError.OutOfMemory) }
     {
@@ -81,7 +81,7 @@ impl WireThread {
         self.order(rt, Order::Pass)
     }
 
-    /// Gives an order, which is lost where the wire thread has ended.
+    /// Gives an order, which is lost if the wire thread has ended.
     fn order<R: Wait>(&self, rt: &R, order: Order) -> Result<(), RoundsError>
         ensures { IfErr result (λ e. e ≡ RoundsError.OutOfMemory) }
     {
@@ -109,7 +109,7 @@ impl From<SendError<Arrival>> for Ended {
 }
 
 impl<W: Wire + Drop> WireLoop<W> {
-    /// Does what it is asked for, in order, until nobody asks any more. It ends before where memory is refused: nothing is sent and
+    /// Does what it is asked for, in order, until nobody asks any more. It ends before if memory is refused: nothing is sent and
     /// nothing comes then any more.
     pub(crate) fn run<R: Wait>(self, rt: &R, alloc: Global) {
         let WireLoop {
@@ -130,7 +130,7 @@ impl<W: Wire + Drop> WireLoop<W> {
     }
 }
 
-/// Sends a datagram from its sender's end. Where the wire fails or takes fewer bytes, it is lost.
+/// Sends a datagram from its sender's end. If the wire fails or takes fewer bytes, it is lost.
 fn send<W: Wire>(wires: &mut [(W, W)], datagram: &LinkDatagram) {
     let Some(ends) = wires.get_mut(datagram.link) else {
         return;

@@ -72,7 +72,7 @@ impl Share for Wired {
 /// # Errors
 ///
 /// `BadSetup` first. Then those of the given events: `OutOfMemory`, or `Event` for any other cause. Then `Socket` for another number
-/// of wires than of links. Then, where there is a wire for each link, the lowest worker's: `GateShut`, only under a gate whose type may
+/// of wires than of links. Then, if there is a wire for each link, the lowest worker's: `GateShut`, only under a gate whose type may
 /// shut, `OutOfMemory` or `Mismatch`; or `ThreadRefused`.
 pub fn live_over<R: Threads + Wait + Sync, G: Gate + Sync, W: Wire + Send + Drop>(
     rt: &R,
@@ -109,7 +109,7 @@ pub fn live_over<R: Threads + Wait + Sync, G: Gate + Sync, W: Wire + Send + Drop
 ///
 /// # Errors
 ///
-/// As of `live_over`; `Socket` where a socket can't be bound, so never where there is no link.
+/// As of `live_over`; `Socket` if a socket can't be bound, so never if there is no link.
 pub fn live<R: Threads + Wait + Net + Sync, G: Gate + Sync>(
     rt: &R,
     alloc: Global,
@@ -242,7 +242,7 @@ fn parted<W: Wire + Drop>(
 }
 
 /// The wires of each worker in a thread of their own, and after them the workers. Each wire thread ends when its worker has. The task
-/// is passed part by part, since a closure's clauses are lost where it captures a value whose type has a lifetime.
+/// is passed part by part, since a closure's clauses are lost if it captures a value whose type has a lifetime.
 fn beside_wire_loops<R: Threads + Wait + Sync, G: Gate + Sync, W: Wire + Send + Drop>(
     rt: &R,
     alloc: Global,

@@ -121,7 +121,7 @@ impl<'a> WiredLinks<'a> {
         }
     }
 
-    /// The number under which a datagram was sent, and `None` where it wasn't.
+    /// The number under which a datagram was sent, and `None` if it wasn't.
     fn number<R: Wait>(&self, rt: &R, link: &LinkQueue, datagram: &LinkDatagram) -> Option<usize> {
         let log = self.shared.log();
         let head = Actor::Head(link.head());

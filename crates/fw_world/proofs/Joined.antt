@@ -107,7 +107,7 @@ from_joined f a (x ∷ xs) is =
     (λ there. let from = from_joined f a xs there in record { of = from.of; there = inr from.there; has = from.has })
     (in_parts a (f x) (flat_map f xs) is)
 
--- No value stands twice in the joined lists where none does in each of them. The tag of each value is the key of its list's element, and
+-- No value stands twice in the joined lists if none does in each of them. The tag of each value is the key of its list's element, and
 -- no two elements have one key.
 pub once_joined : {X A K : Type 0} (f : X → List A) (key : X → K) (tag : A → K) (xs : List X) → Once (map key xs)
     → ((x : X) → In x xs → Once (f x)) → ((x : X) (a : A) → In x xs → In a (f x) → tag a ≡ key x) → Once (flat_map f xs)
@@ -144,7 +144,7 @@ in_found {V} k v (entry ∷ entries) once (inr later) =
     (λ away. cond-false (nat_eq k entry.0) (Some entry.1) (lookup (nat_eq k) entries) away ∙ in_found k v entries once.1 later)
     (cases_Bool (nat_eq k entry.0))
 
--- a key is there exactly where it finds something
+-- a key is there exactly if it finds something
 pub key_found : {V : Type 0} (k : ℕ) (es : List (ℕ × V)) → In k (map (λ (entry : ℕ × V). entry.0) es) → is_some (lookup (nat_eq k) es) ≡ true
 key_found k [] is = absurd is
 key_found {V} k (entry ∷ entries) is = go (nat_eq k entry.0) refl is (key_found k entries)

@@ -87,7 +87,7 @@ module _ (s old : State) (is : s ≡ old) (key : ℕ) where
 some_head : (a b : Head) → Some a ≡ Some b → a ≡ b
 some_head a b e = cc
 
--- so it does where its book stays with its head end
+-- so it does if its book stays with its head end
 pub moved_own : (s : State) → IsState s → (key : ℕ) (new : List (ℕ × Head)) (found written : Head) → lookup (nat_eq key) s.heads ≡ Some found → new ≡ set_value (nat_eq key) s.heads written
     → written.book.head ≡ found.book.head → IsState (record s { heads = new })
 moved_own s is key new found written there set keeps = subst (λ (hs : List (ℕ × Head)). IsState (record s { heads = hs })) (sym set) (record {

@@ -201,7 +201,7 @@ module _ (IsFirst : FirstNames) (offered : Offers) (activations : List Activatio
     verified = λ e. let status = ap status_of receives in absurd cc;
   }
 
-  -- another phase with the same goal, which is verified only where its bytes are genuine
+  -- another phase with the same goal, which is verified only if its bytes are genuine
   pub phase_safe : (old : Meter) (phase : Phase) → goal_of phase ≡ goal_of old.phase → (status_of phase ≡ VerificationSuccessful → IsGenuine (goal_of old.phase) (goal_bytes old))
       → IsSafeMeter IsFirst offered activations number old → IsSafeMeter IsFirst offered activations number (record old { phase = phase })
   phase_safe old phase same genuine k = record {

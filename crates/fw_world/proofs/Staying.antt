@@ -76,7 +76,7 @@ replies_there : (s : State) (d : Datagram) (reply : Option (List ℕ)) → IsAdd
 replies_there s d None there = All-nil (IsAddressed s)
 replies_there s d (Some bytes) there = All-cons (IsAddressed s) (record d { direction = ToHead; bytes = bytes }) [] there (All-nil (IsAddressed s))
 
--- where no more is sent, and where more is
+-- if no more is sent, and where more is
 none_sent : (old new : State) → new.sent ≡ old.sent → All (IsAddressed new) old.sent → AreAddressed new
 none_sent old new same kept = subst (λ (ds : List Datagram). All (IsAddressed new) ds) (sym same) kept
 

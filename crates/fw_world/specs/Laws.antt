@@ -41,7 +41,7 @@ ActorsStay =
     (old new : State) (event : Event) → StateStep old event new → (number : ℕ)
     → (is_some (head_at new number) ≡ is_some (head_at old number)) × (is_some (meter_at new number) ≡ is_some (meter_at old number))
 
--- where all was sent between head ends and meters that are there, each step keeps it so
+-- if all was sent between head ends and meters that are there, each step keeps it so
 abbrev pub SentStaysAddressed : Type 0
 SentStaysAddressed = (old new : State) (event : Event) → StateStep old event new → AreAddressed old → AreAddressed new
 

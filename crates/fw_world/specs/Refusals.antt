@@ -78,7 +78,7 @@ abbrev pub AddresseeMayWant : State → Direction → Datagram → Type 0
 AddresseeMayWant s ToMeter d = (m : Meter) × (meter_at s d.meter ≡ Some m) × MeterMayWant m d.bytes
 AddresseeMayWant s ToHead d = (head : Head) × (head_at s d.head ≡ Some head) × RowsMayWant head.rows d.meter d.bytes
 
--- An opening may take memory, a tick where the meter has a live row, a delivery where its addressee may, and a stop where the datagram or
+-- An opening may take memory, a tick where the meter has a live row, a delivery if its addressee may, and a stop where the datagram or
 -- the meter may.
 abbrev pub MayWantMemory : State → Event → Type 0
 MayWantMemory s (open_campaign campaign release image meters) = Unit {0}
@@ -88,6 +88,6 @@ MayWantMemory s (stop number calls torn) =
     (d : Datagram) × (m : Meter) × (slice_get s.sent number ≡ Some d) × (meter_at s d.meter ≡ Some m) × MeterMayWant m d.bytes
 MayWantMemory s event = ⊥
 
--- memory is refused where nothing else is a reason
+-- memory is refused if nothing else is a reason
 abbrev pub IsRefused : State → Event → StepError → Type 0
 IsRefused s event error = (refusal_of s event ≡ Some error) ⊎ ((refusal_of s event ≡ None) × (error ≡ OutOfMemory) × MayWantMemory s event)

@@ -27,7 +27,7 @@ IsStopped setup events (stopped.Event number world cause) =
     (event : Given) × (slice_get events number ≡ Some event) × StateRun (opening_state setup) (events_of (take number events)) world
     × IsRefused world (event_of event) cause × Run (world_of (opening_state setup)) (events_of (take number events)) (world_of world)
 
--- where a world was made, this holds of the one that the run ended with
+-- if a world was made, this holds of the one that the run ended with
 abbrev pub EndsIn : Result State RunError → (State → Type 0) → Type 0
 EndsIn (Ok world) P = P world
 EndsIn (Err (stopped.Event number world cause)) P = P world

@@ -9,7 +9,7 @@ use std::alloc::AllocError;
 /// An event. Datagrams are named by their places in the list of all that were sent, from 0 on.
 #[derive(Drop)]
 pub enum Event {
-    /// A head end opens a campaign of its own: it offers the image of this release, 0 where it has none, to the meters.
+    /// A head end opens a campaign of its own: it offers the image of this release, 0 if it has none, to the meters.
     OpenCampaign {
         campaign: CampaignId,
         release: u32,

@@ -56,7 +56,7 @@ pub fn actors_stay()
     ensures { ActorsStay }
 {}
 
-/// Where each datagram was sent between a head end and a meter that are there, each step keeps it so. In a new world none was sent.
+/// If each datagram was sent between a head end and a meter that are there, each step keeps it so. In a new world none was sent.
 pub fn sent_stays_addressed()
     ensures { SentStaysAddressed }
 {}

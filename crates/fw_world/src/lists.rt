@@ -40,7 +40,7 @@ pub(crate) fn sent_at(sent: &[Datagram], number: usize) -> Option<&Datagram>
     sent.get(number)
 }
 
-/// Makes room for what a head end sends to a meter at a tick: none where the meter has no live row.
+/// Makes room for what a head end sends to a meter at a tick: none if the meter has no live row.
 pub(crate) fn room_to_send(
     sent: &mut Vec<Datagram>,
     head: &HeadCore,
@@ -57,7 +57,7 @@ pub(crate) fn room_to_send(
     sent.reserve(MAX_SENDS)
 }
 
-/// Makes room for the reply to the datagram of this number: none where it asks for no response. It is read only where the list is
+/// Makes room for the reply to the datagram of this number: none if it asks for no response. It is read only if the list is
 /// full.
 pub(crate) fn room_to_reply(
     alloc: Global,
@@ -91,7 +91,7 @@ fn asks(alloc: Global, sent: &[Datagram], number: usize) -> Result<bool, OutOfMe
     }
 }
 
-/// Makes room for a note of the image that a meter may switch to: none where it holds no verified one.
+/// Makes room for a note of the image that a meter may switch to: none if it holds no verified one.
 pub(crate) fn room_to_note(
     activations: &mut Vec<Activation>,
     seat: &WorldMeter,

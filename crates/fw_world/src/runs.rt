@@ -63,7 +63,7 @@ impl fmt::Debug for RunError {
 ///
 /// # Errors
 ///
-/// `Setup` where no world was made, and `Event` where an event was refused.
+/// `Setup` if no world was made, and `Event` if an event was refused.
 pub fn run(alloc: Global, setup: &Setup, events: &[Event]) -> Result<World, RunError>
     ensures runs { IfOk result (λ w. StateRun (opening_state setup.now) (events_of events.now) w) }
     ensures world { IfOk result (λ w. Run (world_of (opening_state setup.now)) (events_of events.now) (world_of w)) }

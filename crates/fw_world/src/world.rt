@@ -32,7 +32,7 @@ pub struct World {
     activations: Vec<Activation>,
 }
 
-// Written out: where a world is let go, that is one call, and none of its parts is looked into.
+// Written out, so that letting go of it is one call in a proof. A derived `Drop` is unfolded there field by field, which takes minutes.
 impl Drop for World {
     fn drop(self) {
         let World {
@@ -87,7 +87,7 @@ impl World {
     ///
     /// # Errors
     ///
-    /// `BadSetup` where a world can't be made so, and otherwise `OutOfMemory` alone.
+    /// `BadSetup` if a world can't be made so, and otherwise `OutOfMemory` alone.
     pub fn new(alloc: Global, setup: &Setup) -> Result<World, SetupError>
         ensures opening { IfOk result (λ w. w ≡ opening_state setup.now) }
         ensures setup { OnOk result (IsSetup setup.now) }

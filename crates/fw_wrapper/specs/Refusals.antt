@@ -1,4 +1,4 @@
--- Public vocabulary: what refuses, as a list of rows, each a test and the error that it gives. Where several would apply, the first of
+-- Public vocabulary: what refuses, as a list of rows, each a test and the error that it gives. If several would apply, the first of
 -- them counts.
 use Rattle.std.specs.Prelude.{Bool, List, [], ◌∷◌, Option, Some, None, if◌then◌else◌}
 

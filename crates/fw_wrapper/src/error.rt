@@ -7,7 +7,7 @@ use std::alloc::AllocError;
 use std::fmt;
 use thiserror::Error;
 
-/// The refusals of `split` and `join`. Where several would apply, the first of them comes.
+/// The refusals of `split` and `join`. If several would apply, the first of them comes.
 #[derive(Clone, Copy, Debug, Error)]
 pub enum WrapError {
     /// There are fewer bytes than a header has.

@@ -30,7 +30,7 @@ impl Reads for Ciphering {
     }
 }
 
-/// What sealing gives, or opening, where there is a tag.
+/// What sealing gives, or opening, if there is a tag.
 fn gcm_text(
     alloc: Global,
     key: &[u8; 16],

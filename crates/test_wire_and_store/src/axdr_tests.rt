@@ -158,7 +158,7 @@ const FAULTS: &str = "
     0202098007       => BadLength
     02030007         => UnknownTag
     020209030780     => Truncated
-    // Lengths of up to 2^32 - 1 bytes, bits or elements, where there are none or one.
+    // Lengths of up to 2^32 - 1 bytes, bits or elements, if there are none or one.
     0184ffffffff     => Truncated
     0184ffffffff00   => Truncated
     0284ffffffff     => Truncated

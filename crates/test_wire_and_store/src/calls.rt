@@ -23,7 +23,7 @@ pub(crate) fn calls<S: ImageStore>(alloc: Global, store: &mut S, table: &str) ->
     each_line(alloc, &mut Session(store), table)
 }
 
-/// What a store answers to a call: bytes in hexadecimal, `done`, or the fault, and `outside` where the bytes don't lie in a slot.
+/// What a store answers to a call: bytes in hexadecimal, `done`, or the fault, and `outside` if the bytes don't lie in a slot.
 ///
 /// - `header`: the header's bytes, as far as they aren't zeros
 /// - `write-header BEGIN TAIL`: one of version 2 that begins with these bytes, has others from its releases on, and zeros elsewhere;
@@ -61,7 +61,7 @@ fn head_text<S: ImageStore>(
 }
 
 /// The bytes of a header as far as they aren't zeros, the releases and the marks after them where they aren't zeros alone, and of which
-/// version they are where that isn't 2.
+/// version they are if that isn't 2.
 fn header_text(alloc: Global, header: Result<HeaderBytes, StoreFault>) -> Result<String, Fail> {
     let header = match header {
         Ok(bytes) => bytes,
@@ -80,7 +80,7 @@ fn header_text(alloc: Global, header: Result<HeaderBytes, StoreFault>) -> Result
     Ok(text)
 }
 
-/// The releases, and the marks after them as far as they aren't zeros, where there are some.
+/// The releases, and the marks after them as far as they aren't zeros, if there are some.
 fn tail_text(alloc: Global, tail: &[u8]) -> Result<String, AllocError> {
     let releases = hex::encode(alloc, tail.get(..8).unwrap_or(tail))?;
     let marks = trimmed_text(alloc, tail.get(8..).unwrap_or(&[]))?;

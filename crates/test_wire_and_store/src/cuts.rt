@@ -6,7 +6,7 @@ use std::alloc::Global;
 use std::test::Fail;
 use test_tables::{Reads, Words, each_line, expect, present};
 
-/// A write of two bytes at place 511, across the end of a sector, and of some after place 513 where there were none.
+/// A write of two bytes at place 511, across the end of a sector, and of some after place 513 if there were none.
 fn write() -> HeaderWrite<'static> {
     HeaderWrite {
         at: 511,
@@ -62,8 +62,9 @@ impl Reads for Found {
     }
 }
 
-/// Either byte of the first part is in a sector of its own. Where the file has its new length already, a zero stands for what isn't written.
-/// What is torn here is found as a header whose marks are torn is. Before the write the parts are `ab` and nothing, and after it `cd` and `e`.
+/// Either byte of the first part is in a sector of its own. If the file has its new length already, a zero stands for what isn't written.
+/// What is torn here is found as a header whose marks are torn is. Before the write the parts are `ab` and nothing, and after it `cd` and
+/// `e`.
 const FOUND: &str = "
     6162      => torn
     6164      => torn

@@ -166,7 +166,7 @@ fn changed(
     Ok(String::new(alloc))
 }
 
-/// Takes the steps at a path in the folder of temporary files, where there is no file before each table.
+/// Takes the steps at a path in the folder of temporary files, if there is no file before each table.
 fn steps(rt: &HostRuntime, name: &str, tables: &[&str]) -> Result<(), Fail> {
     let mut path = env::temp_dir(rt)?;
     path.push(name)?;

@@ -8,7 +8,7 @@ use fw_image::{Phase, laws, open_kept, open_store};
 use fw_store::{HeaderVersion, MemoryStore};
 use std::alloc::Global;
 
-/// The meter of a new store. There is none where the store can't be made or its image isn't read.
+/// The meter of a new store. There is none if the store can't be made or its image isn't read.
 pub fn new_meter(
     alloc: Global,
     capacity: u32,
@@ -28,7 +28,7 @@ pub fn new_meter(
     }
 }
 
-/// The meter of a new old store, whose header has version 1. There is none where the store can't be made or its image isn't read.
+/// The meter of a new old store, whose header has version 1. There is none if the store can't be made or its image isn't read.
 pub fn old_meter(
     alloc: Global,
     capacity: u32,

@@ -61,7 +61,7 @@ impl Drop for Stepped {
 /// A step with a journal:
 ///
 /// - `append RECORD`, `commit`, or `new`: another new journal takes its place
-/// - `size`: how many bytes it has up to its shut gate; `bytes`: all bytes of its device; `again`: what is read where that is opened again
+/// - `size`: how many bytes it has up to its shut gate; `bytes`: all bytes of its device; `again`: what is read if that is opened again
 /// - `kept AT..`, `refused AT..`: what opening its bytes returns where those at these places are turned, by a keeper that keeps what it is
 ///   given, or refuses it. Then how many records it was given, in how many bytes, and how many the device has then
 /// - `cut CALLS TORN`: on a device with its bytes that fails after CALLS calls, and leaves this byte: what opening it returns, and two
@@ -72,7 +72,7 @@ impl Drop for Stepped {
 /// and without it:
 ///
 /// - `left FATES`: what a power cut leaves of a device with the bytes 00 11 22 33, after a write of four bytes at 2 and a shortening to
-///   five, where both changes have these fates, and none of `-`
+///   five, if both changes have these fates, and none of `-`
 /// - `opened BYTES`: what opening these bytes returns, and what the device then has; `created BYTES`: the same of a new journal on them
 impl Reads for Stepped {
     fn told(&mut self, alloc: Global, what: &str) -> Result<String, Fail> {
@@ -182,7 +182,7 @@ const OPENED: &str = r#"
     opened 46574a310101       => ("BadBook 4", "46574a310101")
 "#;
 
-/// A journal is made where no byte is.
+/// A journal is made if no byte is.
 const CREATED: &str = r#"
     created            => ("", "46574a3100")
     created 00         => ("NotEmpty", "00")
@@ -276,7 +276,7 @@ fn device_of(opened: &Opened) -> &MemoryDevice {
     }
 }
 
-/// What a power cut leaves where both changes have these fates, and none of `-`.
+/// What a power cut leaves if both changes have these fates, and none of `-`.
 fn fates_text(alloc: Global, what: &str) -> Result<String, Fail> {
     let mut fates = Vec::new(alloc);
     if what != "-" {
@@ -659,7 +659,7 @@ const REPLACED: &str = "
     exists rewritten.fwj.new   => false
 ";
 
-/// Where a file that is no journal has its other name, both stay, and none is made.
+/// If a file that is no journal has its other name, both stay, and none is made.
 const NOT_REPLACED: &str = "
     create rewritten.fwj       => done
     append one                 => Ok(())

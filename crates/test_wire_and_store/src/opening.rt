@@ -105,7 +105,7 @@ const STORED: &str = "
     bbbb 3 verified      => None
     bbbb 1 initiated     => Some(Fault)
     bbbb 2 initiated     => None
-    // a header of version 1 is written in version 2 after that, and not where it is refused
+    // a header of version 1 is written in version 2 after that, and not if it is refused
     bbbb - old verified  => None
     bbaa - old verified  => Some(BadImage)
     bbbb 2 old verified  => Some(Fault)

@@ -56,7 +56,7 @@ const CALLED: &str = "
     enabled: initiate 0                       => (Some(BadInitiate), (true, true))
     enabled: initiate 40001                   => (Some(BadInitiate), (true, true))
     enabled: initiate 32769                   => (Some(BadInitiate), (true, true))
-    // a release below that of the image that runs, also where another one is received; and transfer is disabled
+    // a release below that of the image that runs, also if another one is received; and transfer is disabled
     release-5: initiate 4                     => (Some(BadInitiate), (true, true))
     release-5: initiate-release 4 4           => (Some(BadInitiate), (true, true))
     release-5-receiving: initiate-release 4 4 => (Some(BadInitiate), (true, true))

@@ -10,7 +10,7 @@ use fw_server::{Outcome, answer};
 use fw_wrapper::{WrapError, join};
 use std::alloc::Global;
 
-/// The datagram between two wPorts that answers with an outcome, of at most 16,384 blocks, and `None` where memory was refused.
+/// The datagram between two wPorts that answers with an outcome, of at most 16,384 blocks, and `None` if memory was refused.
 pub fn wrapped_answer(
     alloc: Global,
     source: u16,

@@ -14,7 +14,7 @@ use std::alloc::Global;
 pub fn read_back(alloc: Global, value: &Data, behind: &[u8]) -> Result<(Data, usize), AxdrError>
     ensures same { IfOk result (λ x. value_of x.0 ≡ value_of value.now) }
     ensures used { IfOk result (λ x. x.1 ≡ length (short (value_of value.now))) }
-    // A fault comes only where the value can't be written.
+    // A fault comes only if the value can't be written.
     ensures fault { IfErr result (λ e. IfFault e (unwritable (value_of value.now) max_depth ≡ Some e)) }
 {
     laws::one_spelling();
@@ -33,7 +33,7 @@ pub fn split_back(
 ) -> Result<(u16, u16, Vec<u8>), WrapError>
     ensures ports { IfOk result (λ x. (x.0 ≡ source) × (x.1 ≡ dest)) }
     ensures apdu { IfOk result (λ x. x.2.items ≡ apdu.now) }
-    // A fault comes only where the APDU is too long.
+    // A fault comes only if the APDU is too long.
     ensures fault { IfErr result (λ e. (e ≡ WrapError.OutOfMemory)
         ⊎ ((e ≡ WrapError.TooLong) × (max_apdu < length apdu.now))) }
 {

@@ -111,7 +111,7 @@ impl Trial {
         Some(before)
     }
 
-    /// The refusal, and what can be seen of it, where its calls of one field have each theirs.
+    /// The refusal, and what can be seen of it, if its calls of one field have each theirs.
     pub(crate) fn sight(&self, alloc: Global, refusal: Option<Refusal>) -> Result<String, Fail> {
         let Some(meter) = &self.meter else {
             return Err("there is no meter".into());

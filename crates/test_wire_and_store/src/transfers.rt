@@ -42,7 +42,7 @@ const LATE_BLOCK: &str = r#"
     initiate 4  => (None, true, Initiated, Some((4, Some(2), 1, 0, "bbbb")), [], (3, None, 0, 0, "abc"))
 "#;
 
-/// The last bytes of a block stay, also where it was marked before, and a short last block is taken.
+/// The last bytes of a block stay, also if it was marked before, and a short last block is taken.
 const AGAIN: &str = r#"
     enable true           => (None, true, NotInitiated, None, [], (3, None, 0, 0, "abc"))
     initiate 4            => (None, true, Initiated, Some((4, Some(2), 1, 0, "bbbb")), [], (3, None, 0, 0, "abc"))

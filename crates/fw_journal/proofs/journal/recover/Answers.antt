@@ -23,7 +23,7 @@ returns-then-is_whole-clause-dropped g c = λ honest rest count drops some.
     (none_dropped g.D.JournalDevice g.K.Keeper c.args.device.now c.read_synced.new.device c.args.keeper.now c.args.keeper.now c.as_slice-bytes.result.now (contents_of c.in_ok-records.records.items) c.in_ok-records.end
     (c.as_slice-bytes.ensures.value ∙ c.in_ok-bytes.ensures.bytes honest) c.in_ok-records.ensures.records c.in_ok-records.ensures.end (λ none. refl) (c.if-is_whole.ensures refl) rest count drops some)
 
--- where the keeper refuses, the device is only read
+-- if the keeper refuses, the device is only read
 pub returns-in_err-keep_rest-clause-kept_first : goal.returns-in_err-keep_rest-clause-kept_first
 returns-in_err-keep_rest-clause-kept_first g c = λ honest.
     refused_first g.D.JournalDevice g.K.Keeper c.args.device.now c.read_synced.new.device c.args.keeper.now c.keep_rest.new.keeper c.as_slice-bytes.result.now (contents_of c.in_ok-records.records.items) c.in_ok-records.end
