@@ -90,6 +90,12 @@ def preloaded(library, **settings):
     return {**os.environ, "LD_PRELOAD": str(library), **{name: str(value) for name, value in settings.items()}}
 
 
+def without_counter_notes(said):
+    """The lines of a meter's standard error, except those of records behind the shut gate of its counter's file: a meter with keys that is
+    killed while it reserves numbers leaves such a record."""
+    return [line for line in said.splitlines() if not re.fullmatch(r"\d+ records? behind a shut gate .*\.counter\.dropped(\.\d+)?", line)]
+
+
 class Meter:
     """A meter in a process of its own."""
 
@@ -103,8 +109,8 @@ class Meter:
         if not found:
             status = self.process.wait(LONG) if not first else None
             self.process.kill()
-            said = self.process.communicate()[1]
-            if (status, said) == (-signal.SIGKILL, ""):
+            said = without_counter_notes(self.process.communicate()[1])
+            if (status, said) == (-signal.SIGKILL, []):
                 raise Killed
             raise Failed(f"the first line is {first!r}, it ended with {status}, and it says {said!r}")
         self.address = (found[1] or found[2], int(found[3]))
@@ -117,10 +123,10 @@ class Meter:
         self.process.kill()
         status = self.process.wait()
         self.reader.join()
-        said = self.process.stderr.read()
+        said = without_counter_notes(self.process.stderr.read())
         self.process.stdout.close()
         self.process.stderr.close()
-        wants((status, said) == (-signal.SIGKILL, ""), f"the meter ended with {status} and {said!r}")
+        wants((status, said) == (-signal.SIGKILL, []), f"the meter ended with {status} and {said!r}")
         return self.lines
 
     @contextlib.contextmanager
@@ -171,7 +177,7 @@ def receive(head, meter, image):
 
 # Lines of how far a head end is, and of what it goes on with.
 GOING_ON = re.compile(r"going on with campaign \d+ \d+: \d+ live, \d+ done, \d+ failed")
-PROGRESS = re.compile(r"(\d+) live, (\d+) done, (\d+) failed; (\d+) datagrams/s, (\d+) resends, (\d+) strangers, (\d+) faults")
+PROGRESS = re.compile(r"(\d+) live, (\d+) done, (\d+) failed; (\d+) datagrams/s, (\d+) resends, (\d+) strangers, (\d+) faults(?:, \d+ unopened)?")
 
 
 def without_notes(said):
@@ -297,6 +303,8 @@ class Relay(threading.Thread):
         super().__init__(daemon=True)
         self.fronts, self.backs = ({number: Head().socket for number in range(1, count + 1)} for _ in range(2))
         self.passed, self.meters, self.head, self.open = passed, {}, None, True
+        # The meter on whose link the last one went.
+        self.number = None
 
     def heads(self):
         """The address that asks each meter."""
@@ -324,6 +332,7 @@ class Relay(threading.Thread):
         while self.open:
             for file, _ in poll.poll(0.1):
                 number, one = at[file]
+                self.number = number
                 data, sender = one.recvfrom(65535)
                 is_asked = one is self.fronts[number]
                 if is_asked:

@@ -4,8 +4,8 @@ import pathlib
 import re
 
 TEXTS = pathlib.Path(__file__).resolve().parent.parent / "docs" / "help.txt"
-# What stands in the help for a value that is a file.
-FILES = ("FILE", "LIST", "CAPTURE")
+# What stands in the help for a value that is a file or a folder.
+FILES = ("FILE", "LIST", "CAPTURE", "KEYS", "FOLDER", "OUT")
 
 
 class Option:

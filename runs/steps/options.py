@@ -85,7 +85,8 @@ def asked_again(folder, resend):
 # To be seen: a head end that ignores --resend, doesn't ask again, or waits too long at its socket; one that ends though it is to stay, or
 # stays though it isn't.
 def a_head_end_waits_and_stays(place):
-    """A meter that doesn't answer is asked again after --resend, and not before; and with --stay a head end without live rows goes on."""
+    """A meter that doesn't answer is asked again after --resend, the first retry wait, and not before; and with --stay a head end without live
+    rows goes on."""
     # It is waited for from when the head end was about to send.
     seconds = asked_again(place.sub("late").folder, "800")
     wants(seconds > 0.5, f"it is asked again after {seconds:.3f} s")

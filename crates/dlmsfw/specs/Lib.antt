@@ -1,4 +1,6 @@
 pub mod Status
+pub mod KeyPlaces
 pub mod Places
 pub mod Refusals
 pub mod Texts
+pub mod TracePlaces

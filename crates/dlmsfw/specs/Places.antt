@@ -6,15 +6,15 @@ use Rattle.fw_disk.specs.declared.reason.Reason.{Reason}
 use Rattle.fw_disk.specs.declared.name.Name.{Name}
 use Rattle.fw_disk.specs.declared.name.Name.TheVariants.{Main}
 use Rattle.fw_faults.specs.declared.fault.Fault.{Fault}
-use Rattle.fw_faults.specs.declared.fault.Fault.TheVariants.{StoreFault, Device, BadFile, BadHeader, BadImage, FactoryFault, Input, Socket, NoBook, BookExists, Locked, BookFault, BadBook, BadRecord, ForeignHead, Full, ListFault, BadList, NoAddress, ImageFault, BadSetup, OpenRefused, CancelRefused, CaptureFault, ForeignCapture}
+use Rattle.fw_faults.specs.declared.fault.Fault.TheVariants.{StoreFault, Device, BadFile, BadHeader, BadImage, FactoryFault, Socket, NoBook, BookExists, Locked, BookFault, BadBook, BadRecord, ForeignHead, Full, ListFault, BadList, NoAddress, ImageFault, BadSetup, OpenRefused, CancelRefused, CaptureFault, ForeignCapture, KeysFault, KeysReadable, BadKeys, NoKey, NoCounter, CounterExists, CounterLocked, CounterFault, CounterSpent}
 use Rattle.fw_cli.specs.declared.meter.MeterFault.{MeterFault}
 use Rattle.dlmsfw.specs.declared.cause.BookPlaces.{BookPlaces}
 use Rattle.dlmsfw.specs.declared.cause.BookPlace.{BookPlace}
-use Rattle.dlmsfw.specs.declared.cause.BookPlace.TheVariants.{Book, HeadListen, Meters, Image, Open, Cancel, Campaign, HeadCapture}
+use Rattle.dlmsfw.specs.declared.cause.BookPlace.TheVariants.{Book, HeadListen, Meters, Image, Open, Cancel, Campaign, HeadCapture, HeadKeys, HeadCounter}
 use Rattle.dlmsfw.specs.declared.cause.MeterPlaces.{MeterPlaces}
 use Rattle.dlmsfw.specs.declared.cause.NamedFile.{NamedFile}
 use Rattle.dlmsfw.specs.declared.cause.Place.{Place}
-use Rattle.dlmsfw.specs.declared.cause.Place.TheVariants.{Listen, ListenOf, Store, FactoryFile, Capacity, Capture}
+use Rattle.dlmsfw.specs.declared.cause.Place.TheVariants.{Listen, ListenOf, Store, FactoryFile, Capacity, Capture, Keys, Counter}
 use Rattle.dlmsfw.specs.declared.refusal.Refusal.{Refusal}
 use Rattle.dlmsfw.specs.Refusals.{reason_told}
 
@@ -41,12 +41,24 @@ store_place_of fault file = None
 abbrev pub factory_of : MeterPlaces → Place
 factory_of places = option_map_or FactoryFile places.factory_file (Capacity places.capacity)
 
+-- the file of the counters beside that of a meter
+abbrev pub counter_of : Name → MeterPlaces → Option Place
+counter_of name places = Some (Counter (record { path = places.store; name = name }))
+
 abbrev pub place_in : Fault → Option ℕ → Name → MeterPlaces → Option Place
 place_in Socket number name places = Some (listen_of number places)
 place_in FactoryFault number name places = option_map FactoryFile places.factory_file
 place_in BadSetup number name places = Some (factory_of places)
 place_in CaptureFault number name places = option_map (λ path. Capture (record { path = path; number = None; name = name })) places.capture
 place_in ForeignCapture number name places = option_map (λ path. Capture (record { path = path; number = None; name = name })) places.capture
+place_in KeysFault number name places = option_map Keys places.keys
+place_in KeysReadable number name places = option_map Keys places.keys
+place_in (BadKeys line why) number name places = option_map Keys places.keys
+place_in NoCounter number name places = counter_of name places
+place_in CounterExists number name places = counter_of name places
+place_in CounterLocked number name places = counter_of name places
+place_in CounterFault number name places = counter_of name places
+place_in CounterSpent number name places = counter_of name places
 place_in fault number name places = store_place_of fault (record { path = places.store; number = number; name = name })
 
 abbrev pub place_of : MeterFault → MeterPlaces → Option Place
@@ -55,15 +67,13 @@ place_of ended places = place_in ended.fault ended.number (name_in ended.reason)
 abbrev pub answer_place_of : Because Fault → NamedFile → Option Place
 answer_place_of because store = store_place_of because.error (record store { name = name_in because.reason })
 
--- a file that is traced can't be opened or read
-abbrev pub trace_place_of : Fault → NamedFile → Option NamedFile
-trace_place_of CaptureFault file = Some file
-trace_place_of Input file = Some file
-trace_place_of fault file = None
-
 -- the file of a book
 abbrev pub book_file : Name → BookPlaces → BookPlace
 book_file name places = Book (record { path = places.book; number = None; name = name })
+
+-- the file of the counters beside that of a book
+abbrev pub book_counter : Name → BookPlaces → Option BookPlace
+book_counter name places = Some (HeadCounter (record { path = places.book; name = name }))
 
 -- the campaign that is cancelled first, or the one that a cancelling is of
 abbrev pub cancelled_place : Option ℕ → Option ℕ → Option BookPlace
@@ -89,18 +99,31 @@ book_place_in (OpenRefused refusal) name places = option_map Open places.opened
 book_place_in (CancelRefused refusal) name places = cancelled_place places.cancel places.campaign
 book_place_in CaptureFault name places = option_map (λ path. HeadCapture (record { path = path; number = None; name = name })) places.capture
 book_place_in ForeignCapture name places = option_map (λ path. HeadCapture (record { path = path; number = None; name = name })) places.capture
+book_place_in KeysFault name places = option_map HeadKeys places.keys
+book_place_in KeysReadable name places = option_map HeadKeys places.keys
+book_place_in (BadKeys line why) name places = option_map HeadKeys places.keys
+book_place_in (NoKey meter) name places = option_map HeadKeys places.keys
+book_place_in NoCounter name places = book_counter name places
+book_place_in CounterExists name places = book_counter name places
+book_place_in CounterLocked name places = book_counter name places
+book_place_in CounterFault name places = book_counter name places
+book_place_in CounterSpent name places = book_counter name places
 book_place_in fault name places = None
 
 abbrev pub book_place_of : Because Fault → BookPlaces → Option BookPlace
 book_place_of because places = book_place_in because.error (name_in because.reason) places
 
--- of a store and of a capture the reason is told that stands with the fault
+-- of a store, a capture, keys and counters the reason is told that stands with the fault
 abbrev pub TellsReason : Option Place → Option Reason → Option Refusal → Type 0
 TellsReason (Some (Store file)) reason told = told ≡ reason_told reason
 TellsReason (Some (Capture file)) reason told = told ≡ reason_told reason
+TellsReason (Some (Keys file)) reason told = told ≡ reason_told reason
+TellsReason (Some (Counter file)) reason told = told ≡ reason_told reason
 TellsReason place reason told = Unit {0}
 
 abbrev pub TellsBookReason : Option BookPlace → Option Reason → Option Refusal → Type 0
 TellsBookReason (Some (Book file)) reason told = told ≡ reason_told reason
 TellsBookReason (Some (HeadCapture file)) reason told = told ≡ reason_told reason
+TellsBookReason (Some (HeadKeys file)) reason told = told ≡ reason_told reason
+TellsBookReason (Some (HeadCounter file)) reason told = told ≡ reason_told reason
 TellsBookReason place reason told = Unit {0}

@@ -1,10 +1,10 @@
--- The exit statuses of the program: 0 where its work is done, 1 at a fault or a refused event, 2 at a wrong command line, 4 where a row failed.
+-- The exit statuses of the program: 0 if its work is done, 1 at a fault or a refused event, 2 at a wrong command line, 4 where a row failed.
 use Rattle.std.specs.Prelude.{◌≡◌, ◌≢◌, ℕ, ◌⊎◌, Result, Ok, Err}
 use Rattle.clap.specs.declared.error.kind.ErrorKind.{ErrorKind}
 use Rattle.clap.specs.declared.error.kind.ErrorKind.TheVariants.{DisplayHelp, DisplayVersion, OutOfMemory}
 use Rattle.clap.specs.Values.{kind_of}
 use Rattle.dlmsfw.specs.declared.Ending.{Ending}
-use Rattle.dlmsfw.specs.declared.Ending.TheVariants.{Fault, Capture, Trace, Answer, Meter, Book, Refused, RowsFailed, CommandLine, NoText}
+use Rattle.dlmsfw.specs.declared.Ending.TheVariants.{Fault, Capture, Trace, Answer, Meter, Book, Keys, Refused, RowsFailed, CommandLine, NoText}
 
 -- the text that was asked for
 abbrev pub IsHelp : ErrorKind → Type 0
@@ -20,10 +20,11 @@ pub record EndsParse (kind : ErrorKind) (status : ℕ) : Type 0 where
 abbrev pub EndsWith : Ending → ℕ → Type 0
 EndsWith (Fault fault) status = status ≡ 1
 EndsWith (Capture path cause) status = status ≡ 1
-EndsWith (Trace because path) status = status ≡ 1
+EndsWith (Trace ended reason places) status = status ≡ 1
 EndsWith (Answer because store) status = status ≡ 1
 EndsWith (Meter ended places) status = status ≡ 1
 EndsWith (Book because places) status = status ≡ 1
+EndsWith (Keys failure places) status = status ≡ 1
 EndsWith Refused status = status ≡ 1
 EndsWith RowsFailed status = status ≡ 4
 EndsWith (CommandLine error) status = EndsParse (kind_of error) status

@@ -1,8 +1,10 @@
 -- What a second line begins with: the option that a fault is about, and of a file beside another its path.
 use Rattle.std.specs.Prelude.{ℕ, List, [], ◌++◌, Option, None, Some, codes, decimal}
 use Rattle.std.specs.Net.Text.{socket_text}
+use Rattle.fw_disk.specs.Endings.{ending_of}
 use Rattle.fw_disk.specs.declared.name.Name.{Name}
 use Rattle.fw_disk.specs.declared.name.Name.TheVariants.{Main, New, Journal}
+use Rattle.dlmsfw.specs.declared.cause.CounterFile.{CounterFile}
 use Rattle.dlmsfw.specs.declared.cause.NamedFile.{NamedFile}
 use Rattle.dlmsfw.specs.declared.cause.Place.{Place}
 use Rattle.dlmsfw.specs.declared.cause.Place.TheVariants as place
@@ -23,6 +25,10 @@ beside_text Journal path = path ++ (codes ": " ++ (path ++ codes ".journal"))
 abbrev pub file_text : NamedFile → List ℕ
 file_text file = beside_text file.name (file.path.now ++ number_text file.number)
 
+-- the path of a file, and that of its counters beside it, or of the one beside those
+abbrev pub counter_text : CounterFile → List ℕ
+counter_text file = file.path.now ++ (codes ": " ++ (file.path.now ++ (codes ".counter" ++ ending_of file.name)))
+
 abbrev pub place_text : Place → List ℕ
 place_text (place.Listen address) = codes "--listen " ++ socket_text address
 place_text (place.ListenOf address number) = codes "--listen " ++ (socket_text address ++ (codes ", meter " ++ decimal number))
@@ -30,6 +36,8 @@ place_text (place.Store file) = codes "--store " ++ file_text file
 place_text (place.FactoryFile file) = codes "--factory-file " ++ file.now
 place_text (place.Capacity capacity) = codes "--capacity " ++ decimal capacity
 place_text (place.Capture file) = codes "--capture " ++ file_text file
+place_text (place.Keys file) = codes "--keys " ++ file.now
+place_text (place.Counter file) = codes "--store " ++ counter_text file
 
 abbrev pub book_place_text : BookPlace → List ℕ
 book_place_text (book.Book file) = codes "--book " ++ file_text file
@@ -40,3 +48,5 @@ book_place_text (book.Open serial) = codes "--open " ++ decimal serial
 book_place_text (book.Cancel serial) = codes "--cancel " ++ decimal serial
 book_place_text (book.Campaign serial) = codes "--campaign " ++ decimal serial
 book_place_text (book.HeadCapture file) = codes "--capture " ++ file_text file
+book_place_text (book.HeadKeys file) = codes "--keys " ++ file.now
+book_place_text (book.HeadCounter file) = codes "--book " ++ counter_text file

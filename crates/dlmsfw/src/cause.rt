@@ -1,15 +1,17 @@
 //! What a fault is about, and why it came, where the fault's name doesn't say it.
 
 ghost use Rattle.std.specs.Prelude.{◌≡◌, ◌≢◌, MatchBool, None, Some};
-ghost use Rattle.dlmsfw.specs.Places.{TellsReason, TellsBookReason, answer_place_of, book_place_of, name_in, place_of, store_place_of, trace_place_of};
+ghost use Rattle.std.specs.Option.{option_map};
+ghost use Rattle.dlmsfw.specs.Places.{TellsReason, TellsBookReason, answer_place_of, book_place_of, name_in, place_of, store_place_of};
 ghost use Rattle.dlmsfw.specs.Refusals.{reason_told};
-ghost use Rattle.dlmsfw.specs.Texts.{book_place_text, file_text, place_text};
+ghost use Rattle.dlmsfw.specs.Texts.{book_place_text, counter_text, file_text, place_text};
 
 use crate::refusal;
 use crate::refusal::Refusal;
 use fw_cli::{CancelOptions, HeadOptions, MeterFault, MeterOptions, StatusOptions};
 use fw_disk::{Because, Name, Reason};
 use fw_faults::Fault;
+use fw_host::SealingOptions;
 use std::fmt;
 use std::net::{Ipv4Addr, Net, SocketAddr, UdpSocket};
 use std::rt::Files;
@@ -65,7 +67,7 @@ fn socket_cause(one_is_bound: bool) -> Cause
 #[derive(Clone, Copy)]
 pub(crate) struct NamedFile<'a> {
     path: &'a str,
-    /// The number of the meter whose file it is, which stands behind the path, where there is a count of them.
+    /// The number of the meter whose file it is, which stands behind the path, if there is a count of them.
     number: Option<u32>,
     /// Which of its names is meant.
     name: Name,
@@ -99,6 +101,24 @@ impl fmt::Display for NamedFile<'_> {
     }
 }
 
+/// The file of the counters beside the one at a path, or the one beside that which is meant.
+#[derive(Clone, Copy)]
+pub(crate) struct CounterFile<'a> {
+    path: &'a str,
+    /// Which of its names is meant.
+    name: Name,
+}
+
+impl fmt::Display for CounterFile<'_> {
+    ghost output = { λ file. Some (counter_text file) };
+
+    fn fmt<W: fmt::Write>(&self, f: &mut fmt::Formatter<W>) -> fmt::Result {
+        let path = self.path;
+        let ending = self.name.ending();
+        write!(f, "{path}: {path}.counter{ending}")
+    }
+}
+
 /// The name of a file that a reason is about. Without a reason it is the file itself.
 fn name_in(reason: Option<Reason>) -> Name
     ensures { result ≡ name_in reason }
@@ -117,6 +137,7 @@ pub(crate) struct MeterPlaces<'a> {
     factory_file: Option<&'a str>,
     capacity: u32,
     capture: Option<&'a str>,
+    keys: Option<&'a str>,
 }
 
 impl<'a> MeterPlaces<'a> {
@@ -127,6 +148,7 @@ impl<'a> MeterPlaces<'a> {
         ensures factory_file { result.factory_file ≡ options.now.fresh.factory_file }
         ensures capacity { result.capacity ≡ options.now.fresh.capacity }
         ensures capture { result.capture ≡ options.now.capture }
+        ensures keys { result.keys ≡ option_map (λ sealing. sealing.keys) options.now.sealing }
     {
         MeterPlaces {
             listen: options.listen,
@@ -134,7 +156,18 @@ impl<'a> MeterPlaces<'a> {
             factory_file: options.fresh.factory_file,
             capacity: options.fresh.capacity,
             capture: options.capture,
+            keys: keys_of(options.sealing),
         }
+    }
+}
+
+/// The file of the keys, if there are any.
+fn keys_of<'a>(sealing: Option<SealingOptions<'a>>) -> Option<&'a str>
+    ensures { result ≡ option_map (λ s. s.keys) sealing.entry }
+{
+    match sealing {
+        Some(sealing) => Some(sealing.keys),
+        None => None,
     }
 }
 
@@ -153,6 +186,10 @@ pub(crate) enum Place<'a> {
     Capacity(u32),
     /// The file of its capture.
     Capture(NamedFile<'a>),
+    /// The file of its keys.
+    Keys(&'a str),
+    /// The file of its counters, beside its own.
+    Counter(CounterFile<'a>),
 }
 
 impl fmt::Display for Place<'_> {
@@ -166,6 +203,8 @@ impl fmt::Display for Place<'_> {
             Place::FactoryFile(file) => write!(f, "--factory-file {file}"),
             Place::Capacity(capacity) => write!(f, "--capacity {capacity}"),
             Place::Capture(file) => write!(f, "--capture {file}"),
+            Place::Keys(file) => write!(f, "--keys {file}"),
+            Place::Counter(file) => write!(f, "--store {file}"),
         }
     }
 }
@@ -199,6 +238,17 @@ pub(crate) fn place_of<'a>(ended: MeterFault, places: MeterPlaces<'a>) -> Option
             number: None,
             name,
         })),
+        Fault::KeysFault | Fault::KeysReadable | Fault::BadKeys(_, _) => {
+            Some(Place::Keys(places.keys?))
+        }
+        Fault::NoCounter
+        | Fault::CounterExists
+        | Fault::CounterLocked
+        | Fault::CounterFault
+        | Fault::CounterSpent => Some(Place::Counter(CounterFile {
+            path: places.store,
+            name,
+        })),
         fault => store_place_of(fault, store),
     }
 }
@@ -225,33 +275,8 @@ pub(crate) fn answer_place_of<'a>(
     store_place_of(because.error, NamedFile { name, ..store })
 }
 
-/// What the fault of a trace of this file is about, if it is the file: it can't be opened or read.
-pub(crate) fn trace_place_of<'a>(fault: Fault, file: NamedFile<'a>) -> Option<NamedFile<'a>>
-    ensures { result ≡ trace_place_of fault file.entry }
-{
-    match fault {
-        Fault::CaptureFault | Fault::Input => Some(file),
-        _ => None,
-    }
-}
-
-/// Why a file that is traced can't be opened or read, where it is what the fault is about. Where the command doesn't say it, the system is asked.
-pub(crate) fn trace_refusal_of(
-    files: &impl Files,
-    reason: Option<Reason>,
-    place: Option<NamedFile<'_>>,
-) -> Option<Refusal>
-    ensures { reason ≢ None → place.entry ≢ None → result ≡ reason_told reason }
-{
-    let file = place?;
-    match refusal::of_reason(reason) {
-        Some(refusal) => Some(refusal),
-        None => refusal::of_file(files, file.path),
-    }
-}
-
-/// Why what the fault of a meter is about is refused: of a store or a capture the reason that stands with the fault. If it is an address or a
-/// file to read, and the system refuses it now, why it does.
+/// Why what the fault of a meter is about is refused: of a store, a capture, keys or counters the reason that stands with the fault. If it
+/// is an address or a file to read, and the system refuses it now, why it does.
 pub(crate) fn refusal_of(
     rt: &(impl Net + Files),
     ended: MeterFault,
@@ -262,6 +287,8 @@ pub(crate) fn refusal_of(
     match (ended.fault, place?) {
         (_, Place::Store(_)) => refusal::of_reason(ended.reason),
         (_, Place::Capture(_)) => refusal::of_reason(ended.reason),
+        (_, Place::Keys(_)) => refusal::of_reason(ended.reason),
+        (_, Place::Counter(_)) => refusal::of_reason(ended.reason),
         (Fault::Socket, Place::Listen(at)) => refusal::of_address(rt, at),
         (Fault::Socket, Place::ListenOf(first, number)) => refusal::of_addresses(rt, first, number),
         (Fault::FactoryFault, Place::FactoryFile(path)) => refusal::of_file(rt, path),
@@ -281,6 +308,7 @@ pub(crate) struct BookPlaces<'a> {
     /// The campaign that a cancelling is of.
     campaign: Option<u32>,
     capture: Option<&'a str>,
+    keys: Option<&'a str>,
 }
 
 impl<'a> BookPlaces<'a> {
@@ -299,6 +327,7 @@ impl<'a> BookPlaces<'a> {
             cancel: options.cancel,
             campaign: None,
             capture: options.capture,
+            keys: keys_of(options.sealing),
         }
     }
 
@@ -313,6 +342,7 @@ impl<'a> BookPlaces<'a> {
             cancel: None,
             campaign,
             capture: None,
+            keys: None,
         }
     }
 
@@ -327,6 +357,7 @@ impl<'a> BookPlaces<'a> {
             cancel: None,
             campaign: None,
             capture: None,
+            keys: None,
         }
     }
 }
@@ -350,6 +381,10 @@ pub(crate) enum BookPlace<'a> {
     Campaign(u32),
     /// The file of the capture.
     HeadCapture(NamedFile<'a>),
+    /// The file of the keys.
+    HeadKeys(&'a str),
+    /// The file of the counters, beside that of the book.
+    HeadCounter(CounterFile<'a>),
 }
 
 impl fmt::Display for BookPlace<'_> {
@@ -365,6 +400,8 @@ impl fmt::Display for BookPlace<'_> {
             BookPlace::Cancel(serial) => write!(f, "--cancel {serial}"),
             BookPlace::Campaign(serial) => write!(f, "--campaign {serial}"),
             BookPlace::HeadCapture(file) => write!(f, "--capture {file}"),
+            BookPlace::HeadKeys(file) => write!(f, "--keys {file}"),
+            BookPlace::HeadCounter(file) => write!(f, "--book {file}"),
         }
     }
 }
@@ -405,12 +442,23 @@ pub(crate) fn book_place_of<'a>(
             number: None,
             name,
         })),
+        Fault::KeysFault | Fault::KeysReadable | Fault::BadKeys(_, _) | Fault::NoKey(_) => {
+            Some(BookPlace::HeadKeys(places.keys?))
+        }
+        Fault::NoCounter
+        | Fault::CounterExists
+        | Fault::CounterLocked
+        | Fault::CounterFault
+        | Fault::CounterSpent => Some(BookPlace::HeadCounter(CounterFile {
+            path: places.book,
+            name,
+        })),
         _ => None,
     }
 }
 
-/// Why what the fault of a head end is about is refused: of a book or a capture the reason that stands with the fault. If it is an address or a
-/// file to read, and the system refuses it now, why it does.
+/// Why what the fault of a head end is about is refused: of a book, a capture, keys or counters the reason that stands with the fault. If
+/// it is an address or a file to read, and the system refuses it now, why it does.
 pub(crate) fn book_refusal_of(
     rt: &(impl Net + Files),
     because: &Because<Fault>,
@@ -421,6 +469,8 @@ pub(crate) fn book_refusal_of(
     match (because.error, place?) {
         (_, BookPlace::Book(_)) => refusal::of_reason(because.reason),
         (_, BookPlace::HeadCapture(_)) => refusal::of_reason(because.reason),
+        (_, BookPlace::HeadKeys(_)) => refusal::of_reason(because.reason),
+        (_, BookPlace::HeadCounter(_)) => refusal::of_reason(because.reason),
         (Fault::Socket, BookPlace::HeadListen(at)) => refusal::of_address(rt, at),
         (Fault::ListFault, BookPlace::Meters(path)) => refusal::of_file(rt, path),
         (Fault::ImageFault, BookPlace::Image(path)) => refusal::of_file(rt, path),

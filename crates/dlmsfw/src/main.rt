@@ -1,35 +1,46 @@
 //! The program `dlmsfw`: its command line, its exit statuses, and the printing of its faults.
 #![tactic(auto)]
 
-ghost use Rattle.std.specs.Prelude.{◌≡◌, ◌⊎◌, IfErr, IsErr, IsTrue, None, OnErr, OnOk, false, is_some};
+ghost use Rattle.std.specs.Prelude.{◌≡◌, ℕ, [], IfErr, IfOk, IsErr, IsTrue, None, OnErr, OnOk, Some, false, is_some};
 ghost use Rattle.std.specs.Io.KnownBytes.{Keeps};
+ghost use Rattle.std.specs.Option.{option_map};
 ghost use Rattle.std.specs.Process.{exit_status};
 ghost use Rattle.clap.specs.Values.{kind_of};
 ghost use Rattle.fw_cli.specs.Beginning.{HasLedOut};
 ghost use Rattle.fw_cli.specs.Cancelling.{HasCancelled};
 ghost use Rattle.fw_cli.specs.declared.head.LedOut.TheVariants.{NoneFailed, SomeFailed};
 ghost use Rattle.fw_cli.specs.Faults.{ComesBeforeOutput, IsOfTrace};
-ghost use Rattle.fw_cli.specs.Tracing.{WritesTrace};
+ghost use Rattle.fw_cli.specs.Tracing.{AreOfFile, WritesTrace};
+ghost use Rattle.fw_disk.specs.declared.reason.Reason.{Reason};
 ghost use Rattle.dlmsfw.specs.Status.{EndsAs, EndsParse, EndsWith};
+ghost use Rattle.dlmsfw.specs.TracePlaces.{trace_fault_of};
 ghost use Rattle.dlmsfw.specs.declared.Ending.{Ending};
 
 mod cause;
+mod key_places;
 mod options;
+mod plain_file;
 mod refusal;
 mod streams;
+mod trace_places;
 
 use cause::{BookPlaces, MeterPlaces, NamedFile, Place};
 use clap::error::ErrorKind;
 use fw_cli::{
-    AnswerOptions, CancelFault, CancelOptions, Ended, HeadOptions, LedOut, LiveOptions, MeterFault,
-    MeterOptions, NameOptions, RehearseOptions, ReplayOptions, StatusOptions, StoredOptions,
-    run_answer, run_answer_stored, run_cancel, run_head, run_live, run_meter, run_name,
-    run_rehearse, run_replay, run_status, run_trace,
+    AnswerOptions, CancelFault, CancelOptions, Ended, HeadOptions, KeysFailure, KeysOptions,
+    LedOut, LiveOptions, MeterFault, MeterOptions, NameOptions, RehearseOptions, ReplayOptions,
+    StatusOptions, StoredOptions, TraceKeys, run_answer, run_answer_stored, run_cancel, run_head,
+    run_keys, run_live, run_meter, run_name, run_rehearse, run_replay, run_status, run_trace,
+    trace_links,
 };
-use fw_disk::{Because, Cause, Name};
+use fw_disk::{Because, Cause, Name, Reason};
 use fw_faults::Fault;
 use fw_host::ProgressOutput;
+use fw_names::HeadId;
+use fw_seal::Link;
+use key_places::KeyPlaces;
 use options::{CaptureOption, Invocation, TraceOptions};
+use plain_file::PlainFile;
 use refusal::Refusal;
 use std::alloc::Global;
 use std::fmt::Display;
@@ -37,10 +48,12 @@ use std::fs::File;
 use std::io::{IsTerminal, Read, Write};
 use std::net::Net;
 use std::process::ExitCode;
+use std::random::RandomSource;
 use std::rt::{Clock, Env, Files};
 use std::sync::Wait;
 use std::thread::Threads;
 use std::{env, io};
+use trace_places::{TraceFault, TracePlaces};
 
 /// The microseconds of a second.
 const SECOND: u64 = 1_000_000;
@@ -64,14 +77,16 @@ enum Ending<'a> {
     Fault(Fault),
     /// A fault of the capture of a run in this file, and why it can't be made, if that is known.
     Capture(&'a str, Option<Cause>),
-    /// A fault of a trace of this file.
-    Trace(Because<Fault>, &'a str),
+    /// What ended a trace with these files, and why, if that is known.
+    Trace(TraceFault, Option<Reason>, TracePlaces<'a>),
     /// A fault of an answer over the store in this file.
     Answer(Because<Fault>, &'a str),
     /// A fault of a meter with this address, these files and this capacity, or of one of several.
     Meter(MeterFault, MeterPlaces<'a>),
     /// A fault of a head end with this address and these files, or of the book that is read.
     Book(Because<Fault>, BookPlaces<'a>),
+    /// A fault of the making of keys from this list into this folder.
+    Keys(KeysFailure, KeyPlaces<'a>),
     /// An event of a script was refused, and the command has reported it.
     Refused,
     /// A row that a head end led failed, and the command has reported it.
@@ -113,7 +128,7 @@ fn status_of(rt: &(impl Print + Eprint + Net + Files), done: Result<(), Ending<'
     }
 }
 
-/// Runs the command that the words of the command line ask for. How far it is, is shown on the terminal, if there is one.
+/// Runs the command that the words of the command line ask for. Its progress is shown on the terminal, if there is one.
 fn run<
     'a,
     R: AllocGlobal
@@ -125,6 +140,7 @@ fn run<
         + Threads
         + Wait
         + Net
+        + RandomSource
         + Sync,
     E: Eprint + Sync,
 >(rt: &R, terminal: Option<&E>, words: &'a [String]) -> Result<(), Ending<'a>> {
@@ -146,6 +162,7 @@ fn run_command<
         + Threads
         + Wait
         + Net
+        + RandomSource
         + Sync,
     E: Eprint + Sync,
 >(rt: &R, terminal: Option<&E>, invocation: Invocation<'a>) -> Result<(), Ending<'a>> {
@@ -156,13 +173,14 @@ fn run_command<
         Invocation::Replay(options, to) => replay(rt, terminal, options, to),
         Invocation::Rehearse(options, to) => rehearse(rt, terminal, options, to),
         Invocation::Live(options, to) => live(rt, terminal, options, to),
-        Invocation::Trace(options) => trace_to_output(rt, options),
+        Invocation::Trace(options) => trace_to_output(rt, &options),
         Invocation::Meter(options) => meter(rt, options),
         Invocation::Head(options, every) => {
             let progress = progress_on(terminal.is_some(), every);
             head(rt, progress, &options)
         }
         Invocation::Cancel(options) => cancel(rt, &options),
+        Invocation::Keys(options) => keys(rt, &options),
         Invocation::Status(options) => status(rt, options),
     }
 }
@@ -276,22 +294,68 @@ fn live<
 /// `trace`.
 fn trace_to_output<'a, R: AllocGlobal + Files<File = File> + Input + Print>(
     rt: &R,
-    options: TraceOptions<'a>,
+    options: &TraceOptions<'a>,
 ) -> Result<(), Ending<'a>> {
+    match links_of(rt, rt.alloc(), options.keys, options.head) {
+        Ok(links) => trace_with(rt, &links, options),
+        Err(because) => {
+            let ended = TraceFault::Ended(because.error);
+            Err(Ending::Trace(ended, because.reason, TracePlaces::of(options)))
+        }
+    }
+}
+
+/// The links of the key file of this head end. There is none if no file is given.
+fn links_of<F: Files<File = File>>(
+    rt: &F,
+    alloc: Global,
+    keys: Option<&str>,
+    head: Option<HeadId>,
+) -> Result<Vec<Link>, Because<Fault>>
+    ensures none { keys.entry ≡ None → IfOk result (λ links. links.items ≡ []) }
+    ensures file { (number : ℕ) → IsTrue (is_some keys.entry) → head ≡ Some number → IfOk result (λ links. AreOfFile number links.items) }
+{
+    let (Some(path), Some(head)) = (keys, head) else {
+        return Ok(Vec::new(alloc));
+    };
+    trace_links(rt, alloc, &TraceKeys { path, head })
+}
+
+/// `trace` for who has these links.
+fn trace_with<'a, R: AllocGlobal + Files<File = File> + Input + Print>(
+    rt: &R,
+    links: &[Link],
+    options: &TraceOptions<'a>,
+) -> Result<(), Ending<'a>> {
+    let mut plain = match options.plain {
+        Some(path) => Some(PlainFile::at(rt, path)),
+        None => None,
+    };
     let reader = &mut rt.reader();
     let writer = &mut io::writer(rt);
-    match (
-        trace(rt, rt.alloc(), reader, writer, &options),
+    match trace(
+        rt,
+        rt.alloc(),
+        links,
+        reader,
+        writer,
+        &mut plain,
         options.capture,
     ) {
-        (Ok(()), _) => Ok(()),
-        (Err(because), Some(path)) => Err(Ending::Trace(because, path)),
-        (Err(because), None) => Err(Ending::Fault(because.error)),
+        Ok(()) => Ok(()),
+        Err(ended) => {
+            let reason = match (ended, &plain) {
+                (TraceFault::Unopened(reason), _) => Some(reason),
+                (TraceFault::Ended(Fault::CaptureFault), Some(plain)) => plain.reason(),
+                (TraceFault::Ended(_), _) => None,
+            };
+            Err(Ending::Trace(ended, reason, TracePlaces::of(options)))
+        }
     }
 }
 
 /// `meter`, until it is ended.
-fn meter<'a, R: AllocGlobal + Files<File = File> + Clock + Print + Net + Wait>(
+fn meter<'a, R: AllocGlobal + Files<File = File> + Clock + Print + Eprint + Net + Wait>(
     rt: &R,
     options: MeterOptions<'a>,
 ) -> Result<(), Ending<'a>>
@@ -305,8 +369,8 @@ fn meter<'a, R: AllocGlobal + Files<File = File> + Clock + Print + Net + Wait>(
     }
 }
 
-/// Where a head end shows how far it is: on the terminal, if standard error is one, and else in a line each time that so many seconds went by,
-/// or nowhere if that is 0.
+/// Where a head end shows its progress: on the terminal, if standard error is one. Otherwise in a line each time that so many seconds
+/// went by, or nowhere if that is 0.
 fn progress_on(is_terminal: bool, every: u32) -> ProgressOutput {
     match (is_terminal, every) {
         (true, _) => ProgressOutput::Terminal,
@@ -359,6 +423,18 @@ fn cancel<'a, R: AllocGlobal + Files<File = File> + Print + Eprint>(
     }
 }
 
+/// `keys`.
+fn keys<'a, R: AllocGlobal + Files<File = File> + Print + Net + RandomSource>(
+    rt: &R,
+    options: &KeysOptions<'a>,
+) -> Result<(), Ending<'a>> {
+    let writer = &mut io::writer(rt);
+    match run_keys(rt, rt.alloc(), writer, options) {
+        Ok(()) => Ok(()),
+        Err(failure) => Err(Ending::Keys(failure, KeyPlaces::of(options))),
+    }
+}
+
 /// `status`.
 fn status<'a, R: AllocGlobal + Files<File = File> + Print + Eprint>(
     rt: &R,
@@ -371,7 +447,7 @@ fn status<'a, R: AllocGlobal + Files<File = File> + Print + Eprint>(
     }
 }
 
-/// The file of the capture of a run, where one is asked for. It is made, or emptied.
+/// The file of the capture of a run, if one is asked for. It is made, or emptied.
 fn created<'a, F: Files<File = File>>(
     rt: &F,
     to: CaptureOption<'a>,
@@ -393,32 +469,35 @@ fn ending_of<'a>(fault: Fault, to: CaptureOption<'a>) -> Ending<'a> {
     }
 }
 
-/// Tells the capture in the file that is named, or that of standard input.
-fn trace<F: Files<File = File>, R: Read, W: Write>(
+/// Tells the capture in the file that is named, or that of standard input, to who has these links, and writes it in plain words where it is
+/// asked for.
+fn trace<F: Files<File = File>, R: Read, W: Write, C: Write>(
     rt: &F,
     alloc: Global,
+    links: &[Link],
     reader: &mut R,
     writer: &mut W,
-    options: &TraceOptions<'_>,
-) -> Result<(), Because<Fault>>
-    ensures input { options.now.capture ≡ None → OnOk result (WritesTrace None (R.remaining reader.old) (R.remaining reader.new)
-        (W.contents writer.old) (W.contents writer.new)) }
+    plain: &mut Option<C>,
+    capture: Option<&str>,
+) -> Result<(), TraceFault>
+    ensures input { capture.entry ≡ None → OnOk result (WritesTrace links.now None (R.remaining reader.old) (R.remaining reader.new)
+        (W.contents writer.old) (W.contents writer.new) (option_map C.contents plain.old) (option_map C.contents plain.new)) }
 
-    // Where a file is named, standard input isn't read.
-    ensures file { IsTrue (is_some options.now.capture) → R.remaining reader.new ≡ R.remaining reader.old }
-    ensures asked { IfErr result (λ b. b.error ≡ Fault.CaptureFault → IsTrue (is_some options.now.capture)) }
-    ensures silent { IfErr result (λ b. ComesBeforeOutput b.error → Keeps (W.contents writer.old) (W.contents writer.new)) }
-    ensures reason { IfErr result (λ b. b.error ≡ Fault.CaptureFault → IsTrue (is_some b.reason)) }
-    ensures faults { IfErr result (λ b. (b.error ≡ Fault.CaptureFault) ⊎ IsOfTrace b.error) }
+    // If a file is named, standard input isn't read.
+    ensures file { IsTrue (is_some capture.entry) → R.remaining reader.new ≡ R.remaining reader.old }
+    ensures unopened { (reason : Reason) → result ≡ Err (TraceFault.Unopened reason) → IsTrue (is_some capture.entry) }
+    ensures asked { result ≡ Err (TraceFault.Ended Fault.CaptureFault) → IsTrue (is_some plain.old) }
+    ensures silent { IfErr result (λ e. ComesBeforeOutput (trace_fault_of e) → Keeps (W.contents writer.old) (W.contents writer.new)) }
+    ensures faults { IfErr result (λ e. IsOfTrace (trace_fault_of e)) }
 {
-    let Some(path) = options.capture else {
-        return Ok(run_trace(alloc, reader, writer)?);
+    let Some(path) = capture else {
+        return Ok(run_trace(alloc, links, reader, writer, plain)?);
     };
     match File::open(rt, path) {
-        Ok(mut file) => Ok(run_trace(alloc, &mut file, writer)?),
+        Ok(mut file) => Ok(run_trace(alloc, links, &mut file, writer, plain)?),
         Err(error) => {
             let reason = Cause::from(error).at(Name::Main);
-            Err(Because::of(Fault::CaptureFault, reason))
+            Err(TraceFault::Unopened(reason))
         }
     }
 }
@@ -434,7 +513,7 @@ fn words<R: AllocGlobal + Env>(rt: &R) -> Result<Vec<String>, Ending<'static>> {
         .map_err(|_| Ending::Fault(Fault::OutOfMemory))
 }
 
-/// Prints why the program ends, and returns its exit status. Where standard error can't be written, the status alone says why.
+/// Prints why the program ends, and returns its exit status. If standard error can't be written, the status alone says why.
 fn report(rt: &(impl Print + Eprint + Net + Files), ending: Ending<'_>) -> ExitCode
     ensures { EndsWith ending.entry (exit_status result) }
 {
@@ -444,10 +523,10 @@ fn report(rt: &(impl Print + Eprint + Net + Files), ending: Ending<'_>) -> ExitC
             let place = Some(Place::Capture(NamedFile::of(path)));
             fail_at(rt, Fault::CaptureFault, place, cause.map(Refusal::File))
         }
-        Ending::Trace(because, path) => {
-            let place = cause::trace_place_of(because.error, NamedFile::of(path));
-            let refusal = cause::trace_refusal_of(rt, because.reason, place);
-            fail_at(rt, because.error, place, refusal)
+        Ending::Trace(ended, reason, places) => {
+            let place = trace_places::place_of(ended, places);
+            let refusal = trace_places::refusal_of(rt, reason, place);
+            fail_at(rt, ended.fault(), place, refusal)
         }
         Ending::Answer(because, store) => {
             let place = cause::answer_place_of(&because, NamedFile::of(store));
@@ -463,6 +542,7 @@ fn report(rt: &(impl Print + Eprint + Net + Files), ending: Ending<'_>) -> ExitC
             let refusal = cause::book_refusal_of(rt, &because, place);
             fail_at(rt, because.error, place, refusal)
         }
+        Ending::Keys(failure, places) => fail_keys(rt, &failure, &places),
         Ending::Refused => ExitCode::from(FAULT),
         Ending::RowsFailed => ExitCode::from(ROWS_FAILED),
         Ending::CommandLine(error) => report_parse(rt, error),
@@ -471,6 +551,27 @@ fn report(rt: &(impl Print + Eprint + Net + Files), ending: Ending<'_>) -> ExitC
             ExitCode::from(WRONG_COMMAND_LINE)
         }
     }
+}
+
+/// Prints why the making of keys ended, as `fail_at` does.
+fn fail_keys(rt: &(impl Eprint + Files), failure: &KeysFailure, places: &KeyPlaces<'_>) -> ExitCode
+    ensures { exit_status result ≡ 1 }
+{
+    let fault = failure.fault;
+    let _ = eprintln!(rt; "dlmsfw: {fault}");
+    let refusal = key_places::refusal_of(rt, failure, places);
+    match key_places::place_of(failure, places) {
+        Some(place) => match refusal {
+            Some(refusal) => {
+                let _ = eprintln!(rt; "{place}: {refusal}");
+            }
+            None => {
+                let _ = eprintln!(rt; "{place}");
+            }
+        },
+        None => {}
+    }
+    ExitCode::from(FAULT)
 }
 
 /// Prints what the parser of the command line ended with: the help, the version or what is wrong.
@@ -490,7 +591,8 @@ fn report_parse(rt: &(impl Print + Eprint + Net), error: clap::Error) -> ExitCod
     }
 }
 
-/// Prints the name of a fault, and on a second line the option that it is about, with why that is refused, if it is known. Returns its exit status.
+/// Prints the name of a fault, and on a second line the option that it is about, with why that is refused, if it is known. Returns its exit
+/// status.
 fn fail_at<P: Display + Drop>(
     rt: &impl Eprint,
     fault: Fault,
@@ -512,7 +614,7 @@ fn fail_at<P: Display + Drop>(
     ExitCode::from(FAULT)
 }
 
-/// Prints the fault's name, and its cause on a second line where there is more to say. Returns its exit status.
+/// Prints the fault's name, and its cause on a second line if there is more to say. Returns its exit status.
 fn fail(rt: &(impl Eprint + Net), fault: Fault) -> ExitCode
     ensures { exit_status result ≡ 1 }
 {

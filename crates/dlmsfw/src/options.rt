@@ -3,6 +3,7 @@
 mod answer;
 mod cancel;
 mod head;
+mod keys;
 mod live;
 mod manual;
 mod meter;
@@ -15,9 +16,11 @@ mod trace;
 use clap::error::ErrorKind;
 use clap::{ArgMatches, Command, Error};
 use fw_cli::{
-    AnswerOptions, CancelOptions, HeadOptions, LiveOptions, MeterOptions, NameOptions,
+    AnswerOptions, CancelOptions, HeadOptions, KeysOptions, LiveOptions, MeterOptions, NameOptions,
     RehearseOptions, ReplayOptions, StatusOptions, StoredOptions,
 };
+use fw_host::SealingOptions;
+use fw_sealport::Order;
 use manual::{CommandOption, Presence, Takes};
 use std::alloc::{AllocError, AllocFailed, Global};
 use std::net::SocketAddr;
@@ -32,9 +35,10 @@ pub(crate) enum Invocation<'a> {
     Rehearse(RehearseOptions<'a>, CaptureOption<'a>),
     Live(LiveOptions, CaptureOption<'a>),
     Meter(MeterOptions<'a>),
-    /// With the seconds from one line of progress to the next, where no terminal shows it.
+    /// With the seconds from one line of progress to the next, if no terminal shows it.
     Head(HeadOptions<'a>, u32),
     Cancel(CancelOptions<'a>),
+    Keys(KeysOptions<'a>),
     Status(StatusOptions<'a>),
     Trace(TraceOptions<'a>),
 }
@@ -42,7 +46,7 @@ pub(crate) enum Invocation<'a> {
 /// Where the capture of a run goes.
 #[derive(Clone, Copy)]
 pub(crate) struct CaptureOption<'a> {
-    /// The path of its file, where one is asked for.
+    /// The path of its file, if one is asked for.
     pub(crate) path: Option<&'a str>,
 }
 
@@ -53,6 +57,8 @@ enum WrongValue<'a> {
     NoAddress { option: &'static str, text: &'a str },
     /// The value of this option is an address of another family than that of --listen.
     OtherFamily { option: &'static str, text: &'a str },
+    /// The value of this option is an address from which no meter gets a datagram.
+    NotSeen { option: &'static str, text: &'a str },
     /// The value of this option is no serial number.
     NoSerial { option: &'static str, text: &'a str },
     /// Memory was refused.
@@ -113,6 +119,12 @@ pub(crate) fn parse<'a>(alloc: Global, words: &'a [String]) -> Result<Invocation
             )?;
             Err(command.error(ErrorKind::ValueValidation, &message)?)
         }
+        Err(WrongValue::NotSeen { option, text }) => {
+            let message = format!(in alloc;
+                "invalid value '{text}' for '--{option} <ADDR:PORT>': no meter sees a datagram come from there; it is to be the address of one host with its port"
+            )?;
+            Err(command.error(ErrorKind::ValueValidation, &message)?)
+        }
         Err(WrongValue::NoSerial { option, text }) => {
             let message = format!(in alloc;
                 "invalid value '{text}' for '--{option} <SERIAL>': it is no number from 1 to 4294967295"
@@ -132,6 +144,7 @@ fn found<'a>(
         Some(("meter", given)) => meter::invoked(alloc, given),
         Some(("head", given)) => head::invoked(given),
         Some(("cancel", given)) => cancel::invoked(alloc, given),
+        Some(("keys", given)) => keys::invoked(given),
         Some((name, given)) => Ok(invoked(name, given)),
         None => Ok(None),
     }
@@ -170,6 +183,7 @@ fn dlmsfw<'a>(alloc: Global) -> Result<Command<'a>, AllocError> {
         .subcommand(meter::command(alloc)?)?
         .subcommand(head::command(alloc)?)?
         .subcommand(cancel::command(alloc)?)?
+        .subcommand(keys::command(alloc)?)?
         .subcommand(status::command(alloc)?)?
         .subcommand(trace::command(alloc)?)
 }
@@ -205,6 +219,43 @@ const DAEMON_CAPTURE_STRANGERS: CommandOption = CommandOption {
     presence: Presence::With("capture"),
     help: "Records the datagrams of strangers too, which are counted without it",
 };
+
+/// The option that gives a daemon its keys.
+const KEYS: CommandOption = CommandOption {
+    name: "keys",
+    takes: Takes::Text("KEYS"),
+    presence: Presence::Optional,
+    help: "The file that has the keys; nothing plain is sent or taken then",
+};
+
+/// The option that makes the file of the counters.
+const NEW_COUNTER: CommandOption = CommandOption {
+    name: "new-counter",
+    takes: Takes::Nothing,
+    presence: Presence::With("keys"),
+    help: "Makes FILE.counter, where no file is there: for keys that were never used",
+};
+
+/// The option that lets no datagram be overtaken.
+const STRICT: CommandOption = CommandOption {
+    name: "strict",
+    takes: Takes::Nothing,
+    presence: Presence::With("keys"),
+    help: "Takes only what was sealed after all that was taken before",
+};
+
+/// What the links of a daemon are sealed with, if keys are given.
+fn sealing_of<'a>(given: &ArgMatches<'a>) -> Option<SealingOptions<'a>> {
+    Some(SealingOptions {
+        keys: given.get_str("keys")?,
+        makes_counter: given.get_flag("new-counter"),
+        order: if given.get_flag("strict") {
+            Order::Strict
+        } else {
+            Order::Loose
+        },
+    })
+}
 
 /// Where the capture of a run goes.
 fn capture_of<'a>(given: &ArgMatches<'a>) -> CaptureOption<'a> {

@@ -1,4 +1,4 @@
-//! Why an address or a file is refused. Where the command doesn't say it, the system is asked once more after it has ended, when all that it had
+//! Why an address or a file is refused. If the command doesn't say it, the system is asked once more after it has ended, when all that it had
 //! open is closed.
 
 ghost use Rattle.std.specs.Prelude.{◌≡◌};

@@ -10,7 +10,9 @@ use Rattle.fw_faults.specs.declared.fault.Fault.TheVariants as fault
 use Rattle.fw_cli.specs.declared.head.HeadOptions.{HeadOptions}
 use Rattle.fw_faults.specs.Faults.{fault_of_stop}
 use Rattle.fw_host.specs.Captures.{IsOfCapture}
+use Rattle.fw_host.specs.declared.sealing.SealingOptions.{SealingOptions}
 use Rattle.fw_host.specs.Heads.{ComesBeforeLines, IsCancelFault, IsOfBook, IsOfHead, IsOfHeadSetup, IsOfLeading, IsOfNewBook, IsOfOldBook, IsOpenFault}
+use Rattle.fw_cli.specs.Faults.{IsKeyed}
 use Rattle.fw_cli.specs.Heads.{IsAskedFor, IsOfCancelling, IsOfList, IsOfOpening, IsOfOpeningSetup, IsOfStop}
 use Rattle.fw_book.specs.Changes.{cancel_refusal}
 use Rattle.fw_book.specs.Contents.{Contents}
@@ -39,6 +41,14 @@ old_in_setup fault.BookExists is = tt
 old_in_setup (fault.CancelRefused refusal) is = tt
 old_in_setup fault.CaptureFault is = tt
 old_in_setup fault.ForeignCapture is = tt
+old_in_setup fault.KeysFault is = tt
+old_in_setup fault.KeysReadable is = tt
+old_in_setup (fault.BadKeys line why) is = tt
+old_in_setup (fault.NoKey meter) is = tt
+old_in_setup fault.NoCounter is = tt
+old_in_setup fault.CounterExists is = tt
+old_in_setup fault.CounterLocked is = tt
+old_in_setup fault.CounterFault is = tt
 old_in_setup f is = is
 
 new_in_setup : (f : Fault) → IsOfNewBook f → IsOfHeadSetup f
@@ -81,6 +91,7 @@ book_is_asked options f is = asked_by options options.book.is_new f refl is
 pub setup_in_head : (f : Fault) → IsOfHeadSetup f → IsOfHead f
 setup_in_head fault.Full is = tt
 setup_in_head fault.Output is = tt
+setup_in_head fault.CounterSpent is = tt
 setup_in_head f is = is
 
 pub record IsLater (options : HeadOptions) (f : Fault) : Type 0 where
@@ -120,19 +131,39 @@ pub line_lost : (options : HeadOptions) (f : Fault) → ((f ≡ fault.Output) �
 line_lost options f (inl output) = subst (IsLater options) (sym output) (record { of_head = tt; asked = tt; later = λ h. h })
 line_lost options f (inr memory) = subst (IsLater options) (sym memory) (record { of_head = tt; asked = tt; later = λ h. h })
 
-pub stopped : (options : HeadOptions) (f : Fault) → (IsOfCapture f → IsTrue (is_some options.capture)) → IsOfStop f → IsLater options f
-stopped options fault.CaptureFault asked is = record { of_head = tt; asked = asked tt; later = λ h. h }
-stopped options fault.Socket asked is = record { of_head = tt; asked = tt; later = λ h. h }
-stopped options fault.BookFault asked is = record { of_head = tt; asked = tt; later = λ h. h }
-stopped options fault.Full asked is = record { of_head = tt; asked = tt; later = λ h. h }
-stopped options fault.OutOfMemory asked is = record { of_head = tt; asked = tt; later = λ h. h }
-stopped options f asked is = absurd is
+pub stopped : (options : HeadOptions) (f : Fault) → (IsOfCapture f → IsTrue (is_some options.capture)) → IsKeyed options.sealing f → IsOfStop f → IsLater options f
+stopped options fault.CaptureFault asked keyed is = record { of_head = tt; asked = asked tt; later = λ h. h }
+stopped options fault.CounterFault asked keyed is = record { of_head = tt; asked = keyed; later = λ h. h }
+stopped options fault.CounterSpent asked keyed is = record { of_head = tt; asked = keyed; later = λ h. h }
+stopped options fault.Socket asked keyed is = record { of_head = tt; asked = tt; later = λ h. h }
+stopped options fault.BookFault asked keyed is = record { of_head = tt; asked = tt; later = λ h. h }
+stopped options fault.Full asked keyed is = record { of_head = tt; asked = tt; later = λ h. h }
+stopped options fault.OutOfMemory asked keyed is = record { of_head = tt; asked = tt; later = λ h. h }
+stopped options f asked keyed is = absurd is
 
 of_stop : (error : Stop) → IsOfStop (fault_of_stop error)
 of_stop stop.Closed = tt
 of_stop stop.Full = tt
 of_stop stop.BookFault = tt
 of_stop stop.OutOfMemory = tt
+
+stop_is_keyed : (s : Option SealingOptions) (error : Stop) → IsKeyed s (fault_of_stop error)
+stop_is_keyed s stop.Closed = tt
+stop_is_keyed s stop.Full = tt
+stop_is_keyed s stop.BookFault = tt
+stop_is_keyed s stop.OutOfMemory = tt
+
+pub stop_keyed : (s : Option SealingOptions) (error : Stop) (f : Fault) → f ≡ fault_of_stop error → IsKeyed s f
+stop_keyed s error f e = subst (λ (x : Fault). IsKeyed s x) (sym e) (stop_is_keyed s error)
+
+stop_captures_none : (error : Stop) → IsOfCapture (fault_of_stop error) → ⊥
+stop_captures_none stop.Closed captures = captures
+stop_captures_none stop.Full captures = captures
+stop_captures_none stop.BookFault captures = captures
+stop_captures_none stop.OutOfMemory captures = captures
+
+pub stop_is_no_capture : (error : Stop) (f : Fault) → f ≡ fault_of_stop error → IsOfCapture f → ⊥
+stop_is_no_capture error f e captures = stop_captures_none error (subst (λ (x : Fault). IsOfCapture x) e captures)
 
 pub stop_fault : (error : Stop) (f : Fault) → f ≡ fault_of_stop error → IsOfStop f
 stop_fault error f e = subst IsOfStop (sym e) (of_stop error)

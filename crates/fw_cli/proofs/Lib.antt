@@ -13,3 +13,6 @@ pub mod Cancels
 pub mod Captured
 pub mod Sayings
 pub mod Fleeting
+pub mod Linked
+pub mod Keyed
+pub mod Traced

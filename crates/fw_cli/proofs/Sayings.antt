@@ -21,15 +21,15 @@ use Rattle.fw_cli.specs.Telling.{Change, ChangesAll, ChangesOne, IsSaid, Said, T
 names_append : (xs ys : List Said) → names_in (xs ++ ys) ≡ names_in xs ++ names_in ys
 names_append [] ys = refl
 names_append (switched name ∷ xs) ys = ap (λ (l : List Name). name ∷ l) (names_append xs ys)
-names_append (lacked dropped faults ∷ xs) ys = names_append xs ys
+names_append (lacked dropped faults unopened ∷ xs) ys = names_append xs ys
 
 names_of_round : (activated : Option Name) → names_in (said_of activated) ≡ named activated
 names_of_round None = refl
 names_of_round (Some name) = refl
 
-names_of_lack : (says : Bool) (dropped : Dropped) (faults : ℕ) → names_in (lack_of says dropped faults) ≡ []
-names_of_lack true dropped faults = refl
-names_of_lack false dropped faults = refl
+names_of_lack : (says : Bool) (dropped : Dropped) (faults unopened : ℕ) → names_in (lack_of says dropped faults unopened) ≡ []
+names_of_lack true dropped faults unopened = refl
+names_of_lack false dropped faults unopened = refl
 
 lines_append : (xs ys : List Said) → lines_of (xs ++ ys) ≡ lines_of xs ++ lines_of ys
 lines_append xs ys = map-append (λ (one : Said). line_of one) xs ys
@@ -50,16 +50,16 @@ said_more names more said next p q r a b c are those first second = record {
 }
 
 -- a round is told
-pub said_round : (names : List Name) (activated : Option Name) (says : Bool) (dropped : Dropped) (faults : ℕ) (p q r s : Bool) (a b c d : Option (List ℕ)) → IsSaid names p q a b
-    → Told (lines_of (said_of activated)) q r b c → Told (lines_of (lack_of says dropped faults)) r s c d → IsSaid (names ++ named activated) p s a d
-said_round names activated says dropped faults p q r s a b c d was switch lack =
-    let next = said_of activated ++ lack_of says dropped faults in
+pub said_round : (names : List Name) (activated : Option Name) (says : Bool) (dropped : Dropped) (faults unopened : ℕ) (p q r s : Bool) (a b c d : Option (List ℕ)) → IsSaid names p q a b
+    → Told (lines_of (said_of activated)) q r b c → Told (lines_of (lack_of says dropped faults unopened)) r s c d → IsSaid (names ++ named activated) p s a d
+said_round names activated says dropped faults unopened p q r s a b c d was switch lack =
+    let next = said_of activated ++ lack_of says dropped faults unopened in
     let those : names_in next ≡ named activated =
-    names_append (said_of activated) (lack_of says dropped faults) ∙ ap (λ (l : List Name). l ++ names_in (lack_of says dropped faults)) (names_of_round activated)
-    ∙ ap (λ (l : List Name). named activated ++ l) (names_of_lack says dropped faults) ∙ append-nil (named activated) in
+    names_append (said_of activated) (lack_of says dropped faults unopened) ∙ ap (λ (l : List Name). l ++ names_in (lack_of says dropped faults unopened)) (names_of_round activated)
+    ∙ ap (λ (l : List Name). named activated ++ l) (names_of_lack says dropped faults unopened) ∙ append-nil (named activated) in
     let told : Told (lines_of next) q s b d =
-    subst (λ (l : List (List ℕ)). Told l q s b d) (sym (lines_append (said_of activated) (lack_of says dropped faults)))
-    (told_on (lines_of (said_of activated)) (lines_of (lack_of says dropped faults)) q r s b c d switch lack) in
+    subst (λ (l : List (List ℕ)). Told l q s b d) (sym (lines_append (said_of activated) (lack_of says dropped faults unopened)))
+    (told_on (lines_of (said_of activated)) (lines_of (lack_of says dropped faults unopened)) q r s b c d switch lack) in
     said_more names (named activated) was.said next p q s a b d was.names_are those was.told told
 
 -- ---- of head ends

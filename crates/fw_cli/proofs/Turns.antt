@@ -78,7 +78,7 @@ pub on_ok : {A B : Type 0} (r : Result A B) (P Q : Type 0) → (P → Q) → OnO
 on_ok (Ok x) P Q told h = told h
 on_ok (Err x) P Q told h = h
 
--- what holds where a test is passed, or where it isn't
+-- what holds where a test is passed, or if it isn't
 pub on_true : (test : Bool) (P : Type 0) → OnTrue test P → test ≡ true → P
 on_true true P holds passed = holds
 on_true false P holds passed = cc passed

@@ -47,7 +47,7 @@ pub record IsDaemonOf {D : Type 0} (kept : KeptHead D) (list : List Listed) (tim
   pub asks : meters_of daemon ≡ list
   pub waits : timing_of daemon ≡ timing
 
--- how rows ended of which so many failed
+-- what is said of rows that ended, if this many of them failed
 abbrev pub HasLedTo : ℕ → LedOut → Type 0
 HasLedTo failed led.NoneFailed = failed ≡ 0
 HasLedTo failed led.SomeFailed = failed ≢ 0

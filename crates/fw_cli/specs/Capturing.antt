@@ -4,7 +4,7 @@ use Rattle.std.specs.Io.KnownBytes.{Appends}
 use Rattle.fw_world.specs.World.{Datagram}
 use Rattle.fw_recording.specs.Recording.{capture_bytes, run_records}
 
--- Where there is a writer, the capture of what was sent was appended to what it held.
+-- If there is a writer, the capture of what was sent was appended to what it held.
 abbrev pub CapturesIf : Option (Option (List ℕ)) → Option (Option (List ℕ)) → List Datagram → Type 0
 CapturesIf None last sent = last ≡ None
 CapturesIf (Some first) None sent = ⊥

@@ -8,7 +8,8 @@ use Rattle.fw_daemon.specs.Rounds.{GoesRound, TellsSwitches, named}
 use Rattle.fw_cli.specs.Telling.{IsSaid}
 use Rattle.fw_cli.specs.declared.fleet.Member.{Member}
 
--- The port of the meter of this number, from 1 on, where the first meter has this port. Of port 0 the system picks one for each.
+-- The ports of --count: that of the meter of this number, from 1 on, if the first meter has this one. Of port 0 the system picks one for
+-- each.
 abbrev pub port_of : ℕ → ℕ → ℕ
 port_of first number = if first == 0 then 0 else first + (number - 1)
 

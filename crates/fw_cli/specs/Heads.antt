@@ -13,13 +13,14 @@ use Rattle.fw_disk.specs.declared.name.Name.TheVariants.{Main}
 use Rattle.fw_journal.specs.Book.{Stands}
 use Rattle.fw_kept.specs.Kept.{HasBook}
 use Rattle.fw_faults.specs.declared.fault.Fault.{Fault}
-use Rattle.fw_faults.specs.declared.fault.Fault.TheVariants.{BadList, BadSetup, BookExists, BookFault, BadBook, BadRecord, CancelRefused, CaptureFault, ForeignCapture, ForeignHead, Full, ImageFault, ListFault, NoBook, OpenRefused, Output, OutOfMemory, Socket}
+use Rattle.fw_faults.specs.declared.fault.Fault.TheVariants.{BadList, BadSetup, BookExists, BookFault, BadBook, BadRecord, CancelRefused, CaptureFault, CounterFault, CounterSpent, ForeignCapture, ForeignHead, Full, ImageFault, ListFault, NoBook, OpenRefused, Output, OutOfMemory, Socket}
 use Rattle.fw_report.specs.declared.summary.RowEntry.{RowEntry}
 use Rattle.fw_report.specs.Json.{number_data, row_data}
 use Rattle.fw_report.specs.Report.{state_word}
 use Rattle.fw_report.specs.Summary.{rows_of_book}
 use Rattle.fw_report.specs.Table.{row_cells, row_headings}
 use Rattle.fw_cli.specs.declared.head.HeadOptions.{HeadOptions}
+use Rattle.fw_cli.specs.Faults.{IsKeyed}
 use Rattle.fw_cli.specs.declared.status.StatusForm.{StatusForm}
 use Rattle.fw_cli.specs.declared.status.StatusForm.TheVariants as form
 
@@ -57,7 +58,7 @@ status_data rows = object (member (codes "cancelled") (number_data (count_of sta
     (member (codes "live") (number_data (count_of state.Live rows))
     (member (codes "rows") (array (items_of (map (λ (row : RowEntry). row_data row) rows))) no_members)))))
 
--- the rows of the book that bytes hold: of no head end, where it has no record
+-- the rows of the book that bytes hold: of no head end, if it has no record
 abbrev pub HasRows : List ℕ → List RowEntry → Type 0
 HasRows bytes rows =
     (Stands bytes [] × (rows ≡ []))
@@ -99,7 +100,7 @@ IsAskedFor options (BadRecord index) = options.book.is_new ≡ false
 IsAskedFor options ForeignHead = options.book.is_new ≡ false
 IsAskedFor options CaptureFault = IsTrue (is_some options.capture)
 IsAskedFor options ForeignCapture = IsTrue (is_some options.capture)
-IsAskedFor options fault = Unit {0}
+IsAskedFor options fault = IsKeyed options.sealing fault
 
 -- of the cancelling of a campaign
 abbrev pub IsOfCancelling : Fault → Type 0
@@ -120,6 +121,8 @@ IsOfOpening fault = ⊥
 -- of a head end that leads
 abbrev pub IsOfStop : Fault → Type 0
 IsOfStop Socket = Unit {0}
+IsOfStop CounterFault = Unit {0}
+IsOfStop CounterSpent = Unit {0}
 IsOfStop CaptureFault = Unit {0}
 IsOfStop BookFault = Unit {0}
 IsOfStop Full = Unit {0}

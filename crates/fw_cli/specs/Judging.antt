@@ -16,6 +16,6 @@ abbrev pub IsAdmitted : Contents → Option ℕ → Option Opened → Type 0
 IsAdmitted book None opened = IsOpenable book opened
 IsAdmitted book (Some serial) opened = cancel_refusal book (campaign_in book serial) ≡ None
 
--- The book refuses nothing that is asked of it: the cancelling of a campaign, or the openings, where none is cancelled first.
+-- The book refuses nothing that is asked of it: the cancelling of a campaign, or the openings, if none is cancelled first.
 abbrev pub IsJudged : Contents → HeadOptions → Asked → Type 0
 IsJudged book options asked = IsAdmitted book options.cancel asked.opened

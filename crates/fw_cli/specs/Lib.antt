@@ -12,10 +12,12 @@ pub mod Scripts
 pub mod Heads
 pub mod Beginning
 pub mod Cancelling
+pub mod Keying
 pub mod Laws
 -- For private clauses alone: no public clause cites it.
 pub mod Private
 pub mod Fleets
 pub mod Judging
 pub mod Reasons
+pub mod Sealing
 pub mod Telling

@@ -11,11 +11,11 @@ use Rattle.fw_workers.specs.Refusals.{IsBarred}
 use Rattle.fw_cli.specs.declared.replay.Air.{Air}
 use Rattle.fw_cli.specs.Replaying.{FatedRounds}
 
--- the rounds and their fates, where there is air
+-- the rounds and their fates, if there is air
 abbrev pub rounds_in : Option Air → Option FatedRounds
 rounds_in air = option_map (λ (a : Air). record { rounds = a.rounds; fates = a.fates.items }) air
 
--- There is no report of workers after these events, and this fault says why. Memory is wanted only where a world can be made of the setup.
+-- There is no report of workers after these events, and this fault says why. Memory is wanted only if a world can be made of the setup.
 pub record HasNoReport (workers : ℕ) (setup : Setup) (events : List Given) (ended : Fault) : Type 0 where
   pub bad_setup : ended ≡ fault.BadSetup → AreWorkers workers → ¬ IsSetup setup
   pub event : ended ≡ fault.Event → (number : ℕ) × IsBarred setup events number

@@ -1,5 +1,5 @@
--- Public vocabulary: what the commands `rehearse` and `live` tell of a script, and what they do to its reader and its writer, where the bytes that
--- these hold are known.
+-- Public vocabulary: what the commands `rehearse` and `live` tell of a script, and what they do to its reader and its writer, where the
+-- bytes that these hold are known.
 use Rattle.std.specs.Prelude.{◌≡◌, ◌⊎◌, ℕ, Bool, List, ◌++◌, Option}
 use Rattle.std.specs.Io.KnownBytes.{Appends, Keeps}
 use Rattle.fw_world.specs.declared.event.Event.{Event as Given}
@@ -27,14 +27,14 @@ TracesWorkers setup given world receipts before after =
     (events : List Event) → AreNumbered given events receipts
     → (trace : List ℕ) × TellsTrace setup events world.sent trace × (after ≡ before ++ trace)
 
--- Of the run of which these are the receipts the text is the trace, where it is asked for, the report of its world, and the line of the board.
+-- Of the run of which these are the receipts the text is the trace, if it is asked for, the report of its world, and the line of the board.
 abbrev pub TellsOfWorkers : Bool → Setup → List Event → State → ℕ → List (List Receipt) → List ℕ → Type 0
 TellsOfWorkers trace setup given world board receipts text =
     (events : List Event) → AreNumbered given events receipts
     → (lines : List ℕ) × TellsTraceIf trace setup events world.sent lines × (text ≡ lines ++ (report_of setup world ++ board_line board))
 
--- Workers made this number of rounds after these events, and are accounted for, with this world. The text is the trace of all events, where it
--- is asked for, then the report of their world, and the line of their board.
+-- Workers made this number of rounds after these events, and are accounted for, with this world. The text is the trace of all events, where
+-- it is asked for, then the report of their world, and the line of their board.
 pub record TellsRehearsal (trace : Bool) (rounds workers : ℕ) (setup : Setup) (events : List Given) (world : State) (text : List ℕ) : Type 0 where
   pub board : ℕ
   pub receipts : List (List Receipt)
@@ -61,7 +61,7 @@ pub record ReadsScript (before after : Option (List ℕ)) (setup : Setup) (event
   pub read : ReadsAll before after input
   pub spelled : SpellsScript input (script_of setup events)
 
--- All input was read, and the report of it was written, and the capture of what was sent, where it is asked for.
+-- All input was read, and the report of it was written, and the capture of what was sent, if it is asked for.
 pub record WritesRehearsal (trace : Bool) (rounds workers : ℕ) (before after : Option (List ℕ)) (uncaptured captured : Option (Option (List ℕ)))
     (first last : Option (List ℕ)) : Type 0 where
   pub input : List ℕ

@@ -30,7 +30,7 @@ use Rattle.fw_script.specs.Script.{SpellsScript, BeginsScript, script_of}
 
 -- ---- what is written
 
--- the trace of what was sent, where it is asked for
+-- the trace of what was sent, if it is asked for
 abbrev pub TellsTraceIf : Bool → Setup → List Event → List Datagram → List ℕ → Type 0
 TellsTraceIf true setup events sent text = TellsTrace setup events sent text
 TellsTraceIf false setup events sent text = text ≡ []
@@ -125,7 +125,7 @@ abbrev pub HasGoodFates : Option Rounds → Type 0
 HasGoodFates None = ⊥
 HasGoodFates (Some rounds) = SpellsSome rounds.fates.now
 
--- All input was read, and the report of it was written, and the capture of what was sent, where it is asked for.
+-- All input was read, and the report of it was written, and the capture of what was sent, if it is asked for.
 pub record WritesRun (rounds : Option FatedRounds) (style : Style) (ended : Ended) (before after : Option (List ℕ))
     (uncaptured captured : Option (Option (List ℕ))) (first last : Option (List ℕ)) : Type 0 where
   pub input : List ℕ

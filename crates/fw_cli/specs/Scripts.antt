@@ -9,9 +9,9 @@ use Rattle.fw_workers.specs.Deals.{AreWorkers}
 use Rattle.fw_cli.specs.Rehearsing.{IsBarredIn}
 use Rattle.fw_cli.specs.Replaying.{MakesNone, MakesOne, ReadsOne}
 
--- The command ends by this fault. A bad line, a bad setup and an event that is refused are those of the script that was read; IsUnmade says of
--- which input the setup is bad, and MayWant for what memory may be wanted. A capture fails only where one is asked for, and once a script was
--- run. How far the reading was is said, and that nothing was written before, nor, where the capture doesn't fail, captured.
+-- The command ends by this fault. A bad line, a bad setup and an event that is refused are those of the script that was read; IsUnmade says
+-- of which input the setup is bad, and MayWant for what memory may be wanted. A capture fails only if one is asked for, and once a script
+-- was run. How far the reading was is said, and that nothing was written before, nor, where the capture doesn't fail, captured.
 pub record EndsBy {C : Type 0} (MayWant : Type 0) (IsUnmade : List ℕ → Type 0) (before after : Option (List ℕ)) (capture captured : Option C)
     (first last : Option (List ℕ)) (ended : Fault) : Type 0 where
   pub bad_line : (number : ℕ) → ended ≡ fault.BadLine number → ReadsOne before after (λ input. IsBadLine input number)

@@ -7,7 +7,7 @@ use Rattle.fw_image.specs.State.{State, Follows, Counts}
 use Rattle.fw_meter.specs.Handling.{Handles}
 use Rattle.fw_text.specs.Lines.{lines_of}
 
--- the line for a reply: lower-case hexadecimal, or a dash where there is no reply
+-- the line for a reply: lower-case hexadecimal, or a dash if there is no reply
 abbrev pub line_for : Option (List ℕ) → List ℕ
 line_for None = codes "-\n"
 line_for (Some reply) = encode_lower reply ++ codes "\n"

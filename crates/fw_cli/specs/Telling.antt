@@ -17,12 +17,12 @@ use Rattle.fw_host.specs.Telling.{Told, lines_of_rows}
 pub data Said : Type 0 where
   -- the meter switched to the image of this name
   switched : Name → Said
-  -- so much was dropped, and so often the port failed
-  lacked : Dropped → ℕ → Said
+  -- so much was dropped, so often the port failed, and so many datagrams didn't open
+  lacked : Dropped → ℕ → ℕ → Said
 
 abbrev pub line_of : Said → List ℕ
 line_of (switched name) = activated_line name
-line_of (lacked dropped faults) = dropped_line dropped faults
+line_of (lacked dropped faults unopened) = dropped_line dropped faults unopened
 
 abbrev pub lines_of : List Said → List (List ℕ)
 lines_of said = map (λ (one : Said). line_of one) said
@@ -31,7 +31,7 @@ lines_of said = map (λ (one : Said). line_of one) said
 abbrev pub names_in : List Said → List Name
 names_in [] = []
 names_in (switched name ∷ said) = name ∷ names_in said
-names_in (lacked dropped faults ∷ said) = names_in said
+names_in (lacked dropped faults unopened ∷ said) = names_in said
 
 -- what is said of a round
 abbrev pub said_of : Option Name → List Said
@@ -39,9 +39,9 @@ said_of None = []
 said_of (Some name) = switched name ∷ []
 
 -- what is said of what was dropped, if anything is
-abbrev pub lack_of : Bool → Dropped → ℕ → List Said
-lack_of true dropped faults = lacked dropped faults ∷ []
-lack_of false dropped faults = []
+abbrev pub lack_of : Bool → Dropped → ℕ → ℕ → List Said
+lack_of true dropped faults unopened = lacked dropped faults unopened ∷ []
+lack_of false dropped faults unopened = []
 
 -- of switches just these were told, in this order
 pub record IsSaid (names : List Name) (was_lost is_lost : Bool) (before after : Option (List ℕ)) : Type 0 where

@@ -40,7 +40,7 @@ pub(crate) struct MeterSetup {
 
 /// A new meter answers each line that the reader has. A line is a datagram of IEC 62056-4-7 in hexadecimal of either
 /// case; an empty line is an empty datagram. For each the writer gets a line: the reply in lower-case hexadecimal, or
-/// `-` where there is none.
+/// `-` if there is none.
 ///
 /// All input is read before anything is written, and what is written is flushed, also before a `BadLine`.
 ///
@@ -81,7 +81,7 @@ pub fn run_answer<R: Read, W: Write>(
     serve(alloc, meter, reader, writer)
 }
 
-/// The meter that the options describe, over a new store in memory. Where memory is refused, the options are judged without it.
+/// The meter that the options describe, over a new store in memory. If memory is refused, the options are judged without it.
 fn set_up(alloc: Global, options: &AnswerOptions<'_>) -> Result<MeterCore<MemoryStore>, Fault>
     ensures ok { IfOk result (λ meter. Describes options.now meter.meter) }
     ensures honest { IfOk result (λ meter. IsTrue meter.honest) }

@@ -13,7 +13,7 @@ use fw_world::Datagram;
 use std::alloc::Global;
 use std::io::Write;
 
-/// Writes the capture of what was sent in a run, where there is a writer for it, and flushes it.
+/// Writes the capture of what was sent in a run, if there is a writer for it, and flushes it.
 ///
 /// # Errors
 ///
@@ -49,7 +49,7 @@ fn bytes_of(alloc: Global, sent: &[Datagram]) -> Result<Vec<u8>, Fault>
 }
 
 /// Writes bytes, and flushes them.
-fn write_whole<C: Write>(writer: &mut C, bytes: &[u8]) -> Result<(), Fault>
+pub(crate) fn write_whole<C: Write>(writer: &mut C, bytes: &[u8]) -> Result<(), Fault>
     ensures written { OnOk result (Appends (C.contents writer.old) (C.contents writer.new) bytes.now) }
     ensures faults { IfErr result (λ f. f ≡ Fault.CaptureFault) }
 {

@@ -1,12 +1,14 @@
-//! The file of a daemon's capture, with why a write to it failed.
+//! The file of a daemon's capture, with why a write to it failed, and why the port of a daemon is closed.
 
-ghost use Rattle.std.specs.Prelude.{◌≡◌, ◌⊎◌, None, IfErr, IfOk, IsTrue, OnErr, is_some};
+ghost use Rattle.std.specs.Prelude.{◌≡◌, ◌≢◌, ◌⊎◌, None, IfErr, IfOk, IsTrue, OnErr, is_some};
 ghost use Rattle.fw_host.specs.Captures.{IsOfCapture};
-ghost use Rattle.fw_cli.specs.Reasons.{reason_of};
+ghost use Rattle.fw_cli.specs.Faults.{IsKeyed};
+ghost use Rattle.fw_cli.specs.Reasons.{closing_fault, counter_fault, reason_of};
 
+use fw_counter::CounterError;
 use fw_disk::{Because, Cause, Name, Reason};
 use fw_faults::Fault;
-use fw_host::open_capture;
+use fw_host::{ClosedBy, SealingOptions, open_capture};
 use std::alloc::Global;
 use std::fs::File;
 use std::io;
@@ -21,7 +23,7 @@ pub(crate) struct CaptureFile {
 }
 
 impl CaptureFile {
-    /// The file of a capture, where one is asked for.
+    /// The file of a capture, if one is asked for.
     pub(crate) fn opened<R: Files<File = File> + Clock>(
         rt: &R,
         alloc: Global,
@@ -62,24 +64,55 @@ pub(crate) fn failure_of(file: Option<&CaptureFile>) -> Option<Cause> {
     file?.cause
 }
 
-/// Why a port with a capture, where one is asked for, is closed: a record couldn't be written, for this cause, or the socket failed.
+/// The fault of a daemon whose port is closed, where a capture is asked for, or keys are given: no counter is given any more, a record
+/// couldn't be written, for this cause, or the socket failed.
 pub(crate) fn closing(
+    capture: Option<&str>,
+    sealing: Option<SealingOptions<'_>>,
+    by: ClosedBy,
+    cause: Option<Cause>,
+) -> Because<Fault>
+    ensures asked { IsOfCapture result.error → IsTrue (is_some capture.entry) }
+    ensures keyed { IsKeyed sealing.entry result.error }
+    ensures fault { result.error ≡ closing_fault capture.entry sealing.entry by }
+    ensures faults { (result.error ≡ Fault.Socket) ⊎ ((result.error ≡ Fault.CaptureFault) ⊎ ((result.error ≡ Fault.CounterFault)
+        ⊎ (result.error ≡ Fault.CounterSpent))) }
+    ensures reason { result.error ≡ Fault.CaptureFault → result.reason ≡ reason_of cause }
+    ensures others { result.error ≢ Fault.CaptureFault → result.reason ≡ None }
+{
+    match by {
+        ClosedBy::Capture if capture.is_some() => Because {
+            error: Fault::CaptureFault,
+            reason: reason_of(cause),
+        },
+        ClosedBy::Counter(error) if sealing.is_some() => Because::from(counter_fault(error)),
+        _ => Because::from(Fault::Socket),
+    }
+}
+
+/// The fault of daemons without keys, of which one has its port closed: a record couldn't be written, for this cause, or a socket failed.
+pub(crate) fn closing_plain(
     capture: Option<&str>,
     has_failed: bool,
     cause: Option<Cause>,
 ) -> Because<Fault>
     ensures asked { IsOfCapture result.error → IsTrue (is_some capture.entry) }
     ensures faults { (result.error ≡ Fault.Socket) ⊎ (result.error ≡ Fault.CaptureFault) }
-    ensures reason { result.error ≡ Fault.CaptureFault → result.reason ≡ reason_of cause }
-    ensures socket { result.error ≡ Fault.Socket → result.reason ≡ None }
 {
-    if has_failed && capture.is_some() {
-        Because {
-            error: Fault::CaptureFault,
-            reason: reason_of(cause),
-        }
+    if has_failed {
+        closing(capture, None, ClosedBy::Capture, cause)
     } else {
-        Because::from(Fault::Socket)
+        closing(capture, None, ClosedBy::Socket, cause)
+    }
+}
+
+/// What a sealer that no counter is given ends a daemon with.
+fn counter_fault(error: CounterError) -> Fault
+    ensures { result ≡ counter_fault error }
+{
+    match error {
+        CounterError::CounterSpent => Fault::CounterSpent,
+        _ => Fault::CounterFault,
     }
 }
 

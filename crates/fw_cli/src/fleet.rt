@@ -28,12 +28,12 @@ ghost use Rattle.fw_store.specs.declared.version.HeaderVersion.TheVariants.{Two}
 ghost use Rattle.fw_daemon.specs.Daemon.{daemon_of};
 ghost use Rattle.fw_daemon.specs.Rounds.{GoesRound};
 ghost use Rattle.fw_cli.specs.Fleets.{AreWatched, HasHeads, IsAddressOf, TellsAll, daemons_of, path_of, port_of};
-ghost use Rattle.fw_cli.specs.Faults.{IsOfMeter, IsOfServing, NamesMeter};
+ghost use Rattle.fw_cli.specs.Faults.{IsOfPlainMeter, IsOfPlainServing, NamesMeter};
 ghost use Rattle.fw_host.specs.Captures.{IsOfCapture};
 ghost use Rattle.fw_host.specs.Meters.{IsOfSetup, IsOfStore, default_factory, listening_line};
 ghost use Rattle.fw_cli.specs.declared.fleet.Member.{Member};
 
-use crate::capture_file::{CaptureFile, closing, failure_of};
+use crate::capture_file::{CaptureFile, closing_plain, failure_of};
 use crate::judged::{Judge, Judged};
 use crate::meter::{Listening, MeterFault, MeterOptions, Teller, heads_of, strangers_of};
 use fw_daemon::{Dropped, MeterDaemon, Watch, step};
@@ -75,7 +75,7 @@ struct Site {
 struct Common {
     /// The strangers to each of them, who have one capture.
     strangers: Strangers,
-    /// The file of that, where one is asked for.
+    /// The file of that, if one is asked for.
     capture: Option<CaptureFile>,
     /// Whether a record couldn't be written in the last round of a meter.
     has_failed: bool,
@@ -120,7 +120,8 @@ fn step_each<C: Clock, W: Watch>(
 {
     for member in members.iter_mut() {
         let activated = member.step(rt, alloc, common)?;
-        watch.round(activated, common.dropped, common.faults);
+        let unopened = member.port.unopened();
+        watch.round(activated, common.dropped, common.faults, unopened);
         if common.has_failed {
             return Err(Closed);
         }
@@ -135,8 +136,8 @@ struct Fleet {
     common: Common,
 }
 
-/// The command for several meters, of the numbers from 1 to this one. A datagram that comes to a meter is handled once those before it had
-/// their turn.
+/// The command for several meters without keys, of the numbers from 1 to this one. A datagram that comes to a meter is handled once those
+/// before it had their turn.
 pub(crate) fn serve_fleet<R: Files<File = File> + Clock + Net + Wait, W: Write>(
     rt: &R,
     alloc: Global,
@@ -144,6 +145,7 @@ pub(crate) fn serve_fleet<R: Files<File = File> + Clock + Net + Wait, W: Write>(
     options: &MeterOptions<'_>,
     count: u32,
 ) -> Result<(), MeterFault>
+    requires plain { options.now.sealing ≡ None }
     ensures ends { IsErr result }
     ensures number { IfErr result (NamesMeter (Some count)) }
     ensures bad_setup { options.now.fresh.factory_file ≡ None → IfErr result (λ e. e.fault ≡ Fault.BadSetup
@@ -151,7 +153,7 @@ pub(crate) fn serve_fleet<R: Files<File = File> + Clock + Net + Wait, W: Write>(
     ensures silent { IfErr result (λ e. e.fault ≢ Fault.Socket → e.fault ≢ Fault.Output → e.fault ≢ Fault.CaptureFault
         → Keeps (W.contents writer.old) (W.contents writer.new)) }
     ensures asked { IfErr result (λ e. IsOfCapture e.fault → IsTrue (is_some options.now.capture)) }
-    ensures faults { IfErr result (λ e. IsOfMeter e.fault) }
+    ensures faults { IfErr result (λ e. IsOfPlainMeter e.fault) }
 {
     let ports = ports_of(rt, alloc, options.listen, count)?;
     let sites = sites_of(rt, alloc, options, ports, count)?;
@@ -163,7 +165,7 @@ pub(crate) fn serve_fleet<R: Files<File = File> + Clock + Net + Wait, W: Write>(
     }
 }
 
-/// Serves these meters, until the port of one is closed. Where a capture is asked for, this is its file.
+/// Serves these meters, until the port of one is closed. If a capture is asked for, this is its file.
 fn serve_members<R: Files<File = File> + Clock + Wait, W: Write>(
     rt: &R,
     alloc: Global,
@@ -173,11 +175,12 @@ fn serve_members<R: Files<File = File> + Clock + Wait, W: Write>(
     options: &MeterOptions<'_>,
 ) -> Result<(), Because<Fault>>
     requires heads { All (HasHeads options.now.heads.items) members.items }
+    requires plain { options.now.sealing ≡ None }
     ensures ends { IsErr result }
     ensures silent { IfErr result (λ b. b.error ≢ Fault.Socket → b.error ≢ Fault.Output → b.error ≢ Fault.CaptureFault
         → Keeps (W.contents writer.old) (W.contents writer.new)) }
     ensures asked { IfErr result (λ b. IsOfCapture b.error → IsTrue (is_some options.now.capture)) }
-    ensures faults { IfErr result (λ b. IsOfServing b.error) }
+    ensures faults { IfErr result (λ b. IsOfPlainServing b.error) }
 {
     let common = Common {
         strangers: strangers_of(alloc, &options.heads, options.captures_strangers)?,
@@ -198,7 +201,7 @@ fn serve_members<R: Files<File = File> + Clock + Wait, W: Write>(
         capture,
         ..
     } = &fleet.common;
-    Err(closing(options.capture, *has_failed, failure_of(capture.as_ref())))
+    Err(closing_plain(options.capture, *has_failed, failure_of(capture.as_ref())))
 }
 
 /// The ports of meters of the numbers from 1 to this one.
@@ -323,7 +326,7 @@ fn members_of<F: Files<File = File>>(
     Ok(members)
 }
 
-/// The judged meter of this number, which gets a file where it has none.
+/// The judged meter of this number, which gets a file if it has none.
 fn new_member<F: Files<File = File>>(
     rt: &F,
     alloc: Global,
@@ -348,8 +351,8 @@ fn new_member<F: Files<File = File>>(
     })
 }
 
-/// The address that the meter of this number receives at, if there is such a port: as many ports after that of the first meter as there are
-/// meters before it. Of port 0 the system picks one for each.
+/// The address that the meter of this number receives at, if there is such a port. The ports of --count run on: it has as many ports after
+/// that of the first meter as there are meters before it. Of port 0 the system picks one for each.
 fn address_of(first: SocketAddr, number: u32) -> Option<SocketAddr>
     ensures { MatchOption result (2 ^ 16 ≤ port_of (socket_port first) number) (IsAddressOf first number) }
 {

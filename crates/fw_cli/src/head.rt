@@ -1,6 +1,6 @@
 //! The command `head`: a head end whose book is in a file leads meters over UDP to the images that they are offered.
 
-ghost use Rattle.std.specs.Prelude.{◌≡◌, ◌≢◌, ◌⊎◌, [], ℕ, List, Option, All, IfErr, IfOk, IsTrue, OnErr, OnOk, false, is_some};
+ghost use Rattle.std.specs.Prelude.{◌≡◌, ◌≢◌, ◌⊎◌, [], ℕ, List, Option, All, IfErr, IfOk, IsTrue, OnErr, OnOk, None, Some, false, is_some};
 ghost use Rattle.std.specs.Io.KnownBytes.{Keeps};
 ghost use Rattle.std.specs.Map.{values_of};
 ghost use Rattle.fw_head.specs.Head.{BeginsWith, cancelled_head};
@@ -8,7 +8,7 @@ ghost use Rattle.fw_names.specs.Name.{Name};
 ghost use Rattle.fw_journal.specs.File.{cause_of};
 ghost use Rattle.fw_kept.specs.Head.{book_of, head_of};
 ghost use Rattle.fw_rollout.specs.Counting.{counted_of};
-ghost use Rattle.fw_rollout.specs.Daemon.{HasRunOut, IsLed, IsOver, timing_of};
+ghost use Rattle.fw_rollout.specs.Daemon.{HasRunOut, IsLed, IsOver, meters_of, timing_of};
 ghost use Rattle.fw_rollout.specs.Leading.{Leader};
 ghost use Rattle.fw_host.specs.Addresses.{HasAddress};
 ghost use Rattle.fw_host.specs.Captures.{IsOfCapture};
@@ -20,19 +20,22 @@ ghost use Rattle.fw_cli.specs.Beginning.{Begins, HasLedOut, HasLedTo, IsDaemonOf
 ghost use Rattle.fw_cli.specs.Judging.{IsJudged};
 ghost use Rattle.fw_cli.specs.Heads.{IsAskedFor, IsOfCancelling, IsOfList, IsOfOpening, IsOfOpeningSetup, IsOfStop};
 ghost use Rattle.fw_cli.specs.Reasons.{reason_of};
+ghost use Rattle.fw_cli.specs.Faults.{IsKeyed};
+ghost use Rattle.fw_cli.specs.Sealing.{IsHeadSealing, links_in, links_of, options_of};
 ghost use Rattle.fw_cli.specs.Telling.{TellsChanges, TellsEnded};
 
 use crate::capture_file::{CaptureFile, closing, failure_of, reason_of};
 use crate::going_on::tell_going_on;
 use crate::meter::{Listening, RecordedPort, tell_listening};
+use crate::sealing::{JudgedSealing, Keyed, keyed_head};
 use fw_blocks::Width;
 use fw_book::{Book, BookError};
 use fw_disk::Because;
 use fw_faults::{Fault, Reads, read_input};
 use fw_host::{
-    BookOptions, CapturePort, HeadProgress, Lines, Opening, Part, ProgressOutput, Strangers,
-    UdpHeadPort, cancel, check_absent, check_addresses, check_cancel, check_parts, kept_head,
-    open_missing, parts_of, read_list,
+    BookOptions, CapturePort, ClosedBy, DatagramPort, HeadProgress, Lines, Opening, Part,
+    ProgressOutput, Sealing, SealingOptions, Strangers, UdpHeadPort, cancel, check_absent,
+    check_addresses, check_cancel, check_parts, kept_head, open_missing, parts_of, read_list,
 };
 use fw_journal::{FileDevice, JournalDevice};
 use fw_kept::KeptHead;
@@ -40,6 +43,7 @@ use fw_names::{CampaignId, HeadId};
 use fw_port::UdpPort;
 use fw_recording::Sink;
 use fw_rollout::{HeadDaemon, Listed, MeterList, Stop, Timing, serve_head};
+use fw_sealport::SealedPort;
 use std::alloc::Global;
 use std::fs::File;
 use std::io::Write;
@@ -69,12 +73,14 @@ pub struct HeadOptions<'a> {
     pub width: Width,
     /// How answers are waited for.
     pub timing: Timing,
-    /// Whether it goes on where no row is live.
+    /// Whether it goes on if no row is live.
     pub stays: bool,
-    /// The path of the file of the capture, where one is asked for.
+    /// The path of the file of the capture, if one is asked for.
     pub capture: Option<&'a str>,
     /// Whether it has the datagrams of addresses that are not in the list too.
     pub captures_strangers: bool,
+    /// What its links are sealed with, where keys are given.
+    pub sealing: Option<SealingOptions<'a>>,
 }
 
 /// How the rows ended that a head end led, once none is live.
@@ -87,7 +93,7 @@ pub enum LedOut {
 }
 
 impl LedOut {
-    /// With so many failed ones.
+    /// How rows ended, if this many of them failed.
     fn of(failed: u64) -> LedOut
         ensures { HasLedTo failed result }
     {
@@ -101,17 +107,20 @@ impl LedOut {
 
 /// The head end leads each live row of its book to its end. It may be ended at any moment, and goes on there when it is run again.
 ///
-/// Where a capture is asked for, its file is gone on with, or made where no file is there. It gets the start of the process, and what is received
+/// If a capture is asked for, its file is gone on with, or made if no file is there. It gets the start of the process, and what is received
 /// and sent, each before it is handled or sent. What comes from addresses that are not in the list is counted in it, unless that is asked for
 /// too.
 ///
-/// All is judged before a file is made: the list, the image, the socket, and what is cancelled and opened, as far as the book is known then. The
-/// file of the capture comes next, and a new book last.
+/// With keys each datagram that it takes and sends is sealed, on the link of the file of its keys with that meter. What doesn't open is
+/// dropped. The counters of what it sends are in the file of the book with `.counter` after it.
+///
+/// All is judged before a file is made: the list, the image, the keys, the socket, and what is cancelled and opened, as far as the book is
+/// known then, and counters that are there. The file of the capture comes next, then a new one of counters, and a new book last.
 ///
 /// The writer gets the line `listening ..`, once datagrams are received, `cancelled ..` and `opened ..` for each campaign, `row ..` for each
 /// row that ended, each once the disk has it, and `over ..` at the end. Each is flushed. After the first, a line that can't be written is
-/// lost. How far it is, is shown on standard error as `progress` says. Standard error is told of records that the book lacks, and of the file
-/// that keeps them ([`kept_head`]), and then of each campaign that has live rows from an earlier run.
+/// lost. Standard error shows the progress as `progress` says. It is told of records that the book lacks, and of the file that keeps them
+/// ([`kept_head`]), and then of each campaign that has live rows from an earlier run.
 ///
 /// # Errors
 ///
@@ -119,14 +128,20 @@ impl LedOut {
 ///
 /// - `ListFault`: the list can't be read. `BadList`: this line is none of a list.
 /// - `ImageFault`: the image can't be read. `OpenRefused` with `ImageTooLong`: it has more than 64 MiB.
+/// - `KeysFault`, `KeysReadable`, `BadKeys`: the file of the keys can't be opened or read, others than its owner may read it, or this line is
+///   none of it. `NoKey`: the meter of this number is in the list, and has no line in that file.
 /// - `BadSetup`: the campaigns that are opened need greater serial numbers than there are, or begin at 0, which is none.
 /// - `Socket`: the address can't be received at. Or the socket failed 1,000 times in a row while the head end led, or the system had no time.
 /// - `NoBook`, `BookExists`, `Locked`, `BadBook`, `BadRecord`, `ForeignHead`: the file has no book that this head end may begin with. It is
 ///   left as it is, or as a journal of the same records.
 /// - `NoAddress`: the meter of this number has a live row in the book, and isn't in the list. Rows that are cancelled first need no address.
-/// - `CaptureFault`: the file of the capture can't be made or opened, or another process has it. Or a record can't be written while the head end
-///   leads: what it is of wasn't handled or sent.
+/// - `NoCounter`, `CounterExists`: no file of counters is there and none is to be made, or one is there and is to be made. `CounterLocked`:
+///   another process has it.
+/// - `CaptureFault`: the file of the capture can't be made or opened, or another process has it. Or a record can't be written while the
+///   head end leads: what it is of wasn't handled or sent.
 /// - `ForeignCapture`: the file holds something else than a capture of a daemon. It is left as it is.
+/// - `CounterFault`: the file of the counters can't be made, opened or read, or holds none. Or it can't be written while the head end leads.
+///   `CounterSpent`: all counters are used. Nothing is sent from then on.
 /// - `CancelRefused`, `OpenRefused`: the book's refusal.
 /// - `BookFault`, `Full`: the file can't be made, opened or written. Nothing of what it lacks was reported.
 /// - `Output`: the first line can't be written.
@@ -141,10 +156,10 @@ pub fn run_head<R: Files<File = File> + Clock + Eprint + Net + Wait, W: Write>(
     progress: ProgressOutput,
     options: &HeadOptions<'_>,
 ) -> Result<LedOut, Because<Fault>>
-    // Where it ends well, what the options ask for was cancelled and opened, and no row of a daemon is live, which says how its rows ended.
+    // If it ends well, what the options ask for was cancelled and opened, and no row of a daemon is live, which says how its rows ended.
     ensures led { IfOk result (HasLedOut options.now) }
 
-    // Where it stays, it ends by a fault alone.
+    // If it stays, it ends by a fault alone.
     ensures stays { OnOk result (options.now.stays ≡ false) }
     ensures silent { IfErr result (λ b. ComesBeforeLines b.error → Keeps (W.contents writer.old) (W.contents writer.new)) }
     ensures asked { IfErr result (λ b. IsAskedFor options.now b.error) }
@@ -156,6 +171,7 @@ pub fn run_head<R: Files<File = File> + Clock + Eprint + Net + Wait, W: Write>(
         file,
         mut asked,
         mut kept,
+        sealing,
     } = set_up(rt, alloc, options)?;
     let strangers = strangers_of(alloc, options, asked.list.meters())?;
     tell_listening(alloc, writer, at)?;
@@ -169,6 +185,7 @@ pub fn run_head<R: Files<File = File> + Clock + Eprint + Net + Wait, W: Write>(
         strangers,
         file,
         capture: options.capture,
+        sealing,
     };
     match lead(rt, alloc, &mut lines, progress, port, &mut daemon, options) {
         Ok(led) => Ok(led),
@@ -224,10 +241,12 @@ fn strangers_of(
 struct Ready {
     port: UdpPort,
     at: SocketAddr,
-    /// The file of the capture, where one is asked for.
+    /// The file of the capture, if one is asked for.
     file: Option<CaptureFile>,
     asked: Asked,
     kept: KeptHead<FileDevice>,
+    /// What its links are sealed with, if there are keys.
+    sealing: Option<Sealing>,
 }
 
 /// The meters of the list, and what is opened for them.
@@ -236,7 +255,7 @@ struct Asked {
     opened: Option<Opened>,
 }
 
-// Written out: where it is let go, that is one call, and none of its parts is looked into.
+// Written out, so that letting go of it is one call in a proof. A derived `Drop` is unfolded there field by field, which takes minutes.
 impl Drop for Asked {
     fn drop(self) {
         let Asked { list: _, opened: _ } = self;
@@ -251,8 +270,8 @@ struct Opened {
     image: Vec<u8>,
 }
 
-/// Reads the list and the image, binds the socket, and opens the book. A file is made once all of this is judged: that of the capture, and then
-/// a new book.
+/// Reads the list, the image and the keys, binds the socket, and opens the book and the counters. A file is made once all of this is
+/// judged: that of the capture, then a new one of counters, and then a new book.
 fn set_up<R: Files<File = File> + Clock + Eprint + Net>(
     rt: &R,
     alloc: Global,
@@ -264,18 +283,31 @@ fn set_up<R: Files<File = File> + Clock + Eprint + Net>(
     ensures number { IfOk result (λ ready. (book_of ready.kept).head ≡ options.now.head) }
     ensures width { IfOk result (λ ready. BeginsWith (book_of ready.kept) options.now.width (head_of ready.kept)) }
     ensures addresses { IfOk result (λ ready. All (HasAddress options.now.cancel ready.asked.list) (values_of (head_of ready.kept).rows)) }
+    ensures links { IfOk result (λ ready. IsHeadSealing options.now.sealing options.now.head ready.asked.list (links_in ready.sealing)) }
     ensures asked { IfErr result (λ b. IsAskedFor options.now b.error) }
     ensures faults { IfErr result (λ b. IsOfHeadSetup b.error) }
 {
     let asked = asked_of(rt, alloc, options)?;
+    let keyed = keyed_head(
+        rt,
+        alloc,
+        options.sealing,
+        options.head,
+        asked.list.meters(),
+    )?;
     let Listening { port, at } = Listening::of(UdpPort::bind_for(rt, options.listen, WAIT_LIMIT))?;
-    let Led { kept, file } = led_head(rt, alloc, options, &asked)?;
+    let Led {
+        kept,
+        file,
+        sealing,
+    } = led_head(rt, alloc, options, &asked, keyed)?;
     Ok(Ready {
         port,
         at,
         file,
         asked,
         kept,
+        sealing,
     })
 }
 
@@ -302,11 +334,12 @@ fn asked_of<F: Files<File = File> + Net>(
     })
 }
 
-/// A head end with its book, and the file of the capture, where one is asked for.
+/// A head end with its book, with the file of the capture, if one is asked for, and with what its links are sealed with, if there are keys.
 #[derive(Drop)]
 struct Led {
     kept: KeptHead<FileDevice>,
     file: Option<CaptureFile>,
+    sealing: Option<Sealing>,
 }
 
 /// The head end with its book, which is made last where it is to be new. Each meter that it has to ask is in the list.
@@ -315,18 +348,21 @@ fn led_head<R: Files<File = File> + Clock + Eprint>(
     alloc: Global,
     options: &HeadOptions<'_>,
     asked: &Asked,
+    keyed: Option<Keyed<'_>>,
 ) -> Result<Led, Because<Fault>>
     requires opened { IsTrue (is_some asked.now.opened) → IsTrue (is_some options.now.opening) }
+    requires keyed { options_of keyed ≡ options.now.sealing }
     ensures number { IfOk result (λ led. (book_of led.kept).head ≡ options.now.head) }
     ensures width { IfOk result (λ led. BeginsWith (book_of led.kept) options.now.width (head_of led.kept)) }
     ensures addresses { IfOk result (λ led. All (HasAddress options.now.cancel asked.now.list) (values_of (head_of led.kept).rows)) }
+    ensures links { IfOk result (λ led. links_in led.sealing ≡ links_of keyed.entry) }
     ensures asked { IfErr result (λ b. IsAskedFor options.now b.error) }
     ensures faults { IfErr result (λ b. IsOfHeadSetup b.error) }
 {
     if options.book.is_new {
-        new_head(rt, alloc, options, asked)
+        new_head(rt, alloc, options, asked, keyed)
     } else {
-        old_head(rt, alloc, options, asked)
+        old_head(rt, alloc, options, asked, keyed)
     }
 }
 
@@ -336,19 +372,28 @@ fn old_head<R: Files<File = File> + Clock + Eprint>(
     alloc: Global,
     options: &HeadOptions<'_>,
     asked: &Asked,
+    keyed: Option<Keyed<'_>>,
 ) -> Result<Led, Because<Fault>>
     requires opened { IsTrue (is_some asked.now.opened) → IsTrue (is_some options.now.opening) }
+    requires keyed { options_of keyed ≡ options.now.sealing }
     ensures number { IfOk result (λ led. (book_of led.kept).head ≡ options.now.head) }
     ensures width { IfOk result (λ led. BeginsWith (book_of led.kept) options.now.width (head_of led.kept)) }
     ensures addresses { IfOk result (λ led. All (HasAddress options.now.cancel asked.now.list) (values_of (head_of led.kept).rows)) }
+    ensures links { IfOk result (λ led. links_in led.sealing ≡ links_of keyed.entry) }
     ensures asked { IfErr result (λ b. IsAskedFor options.now b.error) }
     ensures faults { IfErr result (λ b. IsOfHeadSetup b.error) }
 {
     let kept = kept_head(rt, alloc, options.book, options.head, options.width)?;
     check_addresses(alloc, &kept, asked.list.meters(), options.cancel)?;
     judge(kept.head().view().book, options, asked)?;
+    let links = JudgedSealing::of(rt, alloc, options.book.path, keyed)?;
     let file = CaptureFile::opened(rt, alloc, options.capture)?;
-    Ok(Led { kept, file })
+    let sealing = links.made(rt, alloc, options.book.path)?;
+    Ok(Led {
+        kept,
+        file,
+        sealing,
+    })
 }
 
 /// The head end with a new book. All that it may refuse is judged before a file is made.
@@ -357,18 +402,21 @@ fn new_head<R: Files<File = File> + Clock + Eprint>(
     alloc: Global,
     options: &HeadOptions<'_>,
     asked: &Asked,
+    keyed: Option<Keyed<'_>>,
 ) -> Result<Led, Because<Fault>>
     requires is_new { IsTrue options.now.book.is_new }
     requires opened { IsTrue (is_some asked.now.opened) → IsTrue (is_some options.now.opening) }
+    requires keyed { options_of keyed ≡ options.now.sealing }
     ensures number { IfOk result (λ led. (book_of led.kept).head ≡ options.now.head) }
     ensures width { IfOk result (λ led. BeginsWith (book_of led.kept) options.now.width (head_of led.kept)) }
     ensures addresses { IfOk result (λ led. All (HasAddress options.now.cancel asked.now.list) (values_of (head_of led.kept).rows)) }
+    ensures links { IfOk result (λ led. links_in led.sealing ≡ links_of keyed.entry) }
     ensures asked { IfErr result (λ b. IsAskedFor options.now b.error) }
     ensures faults { IfErr result (λ b. IsOfHeadSetup b.error) }
 {
     check_absent(rt, options.book.path)?;
     judge(&Book::new(alloc, options.head), options, asked)?;
-    made_head(rt, alloc, options, asked)
+    made_head(rt, alloc, options, asked, keyed)
 }
 
 /// The head end with a new book, which takes what is asked of it. Its file is made last.
@@ -377,21 +425,30 @@ fn made_head<R: Files<File = File> + Clock + Eprint>(
     alloc: Global,
     options: &HeadOptions<'_>,
     asked: &Asked,
+    keyed: Option<Keyed<'_>>,
 ) -> Result<Led, Because<Fault>>
     requires is_new { IsTrue options.now.book.is_new }
     requires judged { IsJudged (empty_book options.now.head) options.now asked.now }
+    requires keyed { options_of keyed ≡ options.now.sealing }
     ensures number { IfOk result (λ led. (book_of led.kept).head ≡ options.now.head) }
     ensures width { IfOk result (λ led. BeginsWith (book_of led.kept) options.now.width (head_of led.kept)) }
     ensures addresses { IfOk result (λ led. All (HasAddress options.now.cancel asked.now.list) (values_of (head_of led.kept).rows)) }
+    ensures links { IfOk result (λ led. links_in led.sealing ≡ links_of keyed.entry) }
     ensures asked { IfErr result (λ b. IsAskedFor options.now b.error) }
     ensures faults { IfErr result (λ b. IsOfHeadSetup b.error) }
 {
+    let links = JudgedSealing::of(rt, alloc, options.book.path, keyed)?;
     let file = CaptureFile::opened(rt, alloc, options.capture)?;
+    let sealing = links.made(rt, alloc, options.book.path)?;
     let made = kept_head(rt, alloc, options.book, options.head, options.width)?;
-    Ok(Led { kept: made, file })
+    Ok(Led {
+        kept: made,
+        file,
+        sealing,
+    })
 }
 
-/// Judges what is asked of a book. Where a campaign is cancelled first, which lets go of its meters, openings are judged once it is.
+/// Judges what is asked of a book. If a campaign is cancelled first, which lets go of its meters, openings are judged once it is.
 fn judge(book: &Book, options: &HeadOptions<'_>, asked: &Asked) -> Result<(), Fault>
     ensures judged { OnOk result (IsJudged book.now options.now asked.now) }
     ensures asked { (IsTrue (is_some asked.now.opened) → IsTrue (is_some options.now.opening)) → IfErr result (IsAskedFor options.now) }
@@ -407,7 +464,7 @@ fn judge(book: &Book, options: &HeadOptions<'_>, asked: &Asked) -> Result<(), Fa
 }
 
 /// The meters of the list in a file, for a head end at this address.
-fn list_of_file<F: Files<File = File> + Net>(
+pub(crate) fn list_of_file<F: Files<File = File> + Net>(
     rt: &F,
     alloc: Global,
     path: &str,
@@ -632,11 +689,15 @@ fn lead<R: Clock + Eprint + Wait, W: Write, D: JournalDevice + Drop>(
 ) -> Result<LedOut, Because<Fault>>
     // It waits for answers, and has as many datagrams out, as the options say.
     requires waits { timing_of daemon.old ≡ options.now.timing }
+
+    // If keys are given, its links are those of their file with its meters. Without keys it has none.
+    requires links { IsHeadSealing options.now.sealing options.now.head (meters_of daemon.old) (links_in port.sealing) }
     ensures over { (now : Leader) → IsLed D.honest D.contents D.may_leave daemon.new now → OnOk result (IsOver now) }
     ensures ran_out { OnOk result (HasRunOut daemon.new) }
     ensures ended { IfOk result (HasLedTo (counted_of daemon.new).failed) }
     ensures stays { OnOk result (options.now.stays ≡ false) }
     ensures asked { IfErr result (λ b. IsOfCapture b.error → IsTrue (is_some port.entry.capture)) }
+    ensures keyed { IfErr result (λ b. IsKeyed options.now.sealing b.error) }
     ensures faults { IfErr result (λ b. IsOfStop b.error) }
 {
     let RecordedPort {
@@ -645,30 +706,91 @@ fn lead<R: Clock + Eprint + Wait, W: Write, D: JournalDevice + Drop>(
         mut strangers,
         mut file,
         capture,
+        sealing,
     } = port;
     let recorder = file.as_mut();
-    let recorded = CapturePort::of_head(rt, alloc, &mut socket, at, &mut strangers, recorder);
+    let port = CapturePort::of_head(rt, alloc, &mut socket, at, &mut strangers, recorder);
     let clears = output == ProgressOutput::Terminal;
-    let mut port = UdpHeadPort::new(rt, recorded, lines, clears);
-    let mut progress = HeadProgress::new(rt, output);
-    let led = lead_told(rt, &mut port, daemon, options.stays, &mut progress);
-    drop(progress);
-    let has_failed = port.has_failed();
-    drop(port);
+    let led = match sealing {
+        Some(Sealing { links, counters }) => {
+            let port = SealedPort::new(alloc, port, links, counters);
+            let mut port = UdpHeadPort::new(rt, port, lines, clears);
+            lead_sealed(rt, &mut port, output, daemon, options)
+        }
+        None => {
+            let mut port = UdpHeadPort::new(rt, port, lines, clears);
+            lead_plain(rt, &mut port, output, daemon, options)
+        }
+    };
     match led {
         Ok(()) => {}
-        Err(Stop::Closed) => return Err(closing(capture, has_failed, failure_of(file.as_ref()))),
-        Err(stop) => return Err(Because::from(Fault::from(stop))),
+        Err((Stop::Closed, by)) => {
+            return Err(closing(capture, options.sealing, by, failure_of(file.as_ref())));
+        }
+        Err((stop, _)) => return Err(Because::from(Fault::from(stop))),
     }
     let counts = daemon.counts();
     lines.tell_over(counts);
     Ok(LedOut::of(counts.failed))
 }
 
-/// Leads the rows to their ends over this port, and writes the line of each row that ended, once and in order. It returns as `serve_head` does.
-fn lead_told<R: Clock + Eprint + Wait, W: Write, V: Sink + Drop, D: JournalDevice + Drop>(
+/// Leads the rows of a head end without keys to their ends. If it doesn't, it returns why its port is closed too, if it is.
+fn lead_plain<R: Clock + Eprint + Wait, W: Write, V: Sink + Drop, D: JournalDevice + Drop>(
     rt: &R,
-    port: &mut UdpHeadPort<'_, '_, R, W, V>,
+    port: &mut UdpHeadPort<'_, '_, R, W, CapturePort<'_, R, V>>,
+    output: ProgressOutput,
+    daemon: &mut HeadDaemon<D>,
+    options: &HeadOptions<'_>,
+) -> Result<(), (Stop, ClosedBy)>
+    requires plain { options.now.sealing ≡ None }
+    ensures over { (now : Leader) → IsLed D.honest D.contents D.may_leave daemon.new now → OnOk result (IsOver now) }
+    ensures ran_out { OnOk result (HasRunOut daemon.new) }
+    ensures stays { OnOk result (options.now.stays ≡ false) }
+{
+    lead_over(rt, port, output, daemon, options.stays)
+}
+
+/// Leads the rows of a head end to their ends over the links of its keys alone. If it doesn't, it returns why its port is closed too, if it
+/// is.
+fn lead_sealed<R: Clock + Eprint + Wait, W: Write, V: Sink + Drop, D: JournalDevice + Drop>(
+    rt: &R,
+    port: &mut UdpHeadPort<'_, '_, R, W, SealedPort<CapturePort<'_, R, V>, FileDevice>>,
+    output: ProgressOutput,
+    daemon: &mut HeadDaemon<D>,
+    options: &HeadOptions<'_>,
+) -> Result<(), (Stop, ClosedBy)>
+    requires links { IsHeadSealing options.now.sealing options.now.head (meters_of daemon.old) (Some port.old.port.links) }
+    ensures over { (now : Leader) → IsLed D.honest D.contents D.may_leave daemon.new now → OnOk result (IsOver now) }
+    ensures ran_out { OnOk result (HasRunOut daemon.new) }
+    ensures stays { OnOk result (options.now.stays ≡ false) }
+{
+    lead_over(rt, port, output, daemon, options.stays)
+}
+
+/// Leads the rows to their ends over this port, and shows how far they are.
+fn lead_over<R: Clock + Eprint + Wait, W: Write, P: DatagramPort + Drop, D: JournalDevice + Drop>(
+    rt: &R,
+    port: &mut UdpHeadPort<'_, '_, R, W, P>,
+    output: ProgressOutput,
+    daemon: &mut HeadDaemon<D>,
+    stays: bool,
+) -> Result<(), (Stop, ClosedBy)>
+    ensures over { (now : Leader) → IsLed D.honest D.contents D.may_leave daemon.new now → OnOk result (IsOver now) }
+    ensures ran_out { OnOk result (HasRunOut daemon.new) }
+    ensures stays { OnOk result (stays ≡ false) }
+{
+    let mut progress = HeadProgress::new(rt, output);
+    match lead_told(rt, port, daemon, stays, &mut progress) {
+        Ok(()) => Ok(()),
+        Err(stop) => Err((stop, port.closed_by())),
+    }
+}
+
+/// Leads the rows to their ends over this port, and writes the line of each row that ended, once and in order. It returns as `serve_head`
+/// does.
+fn lead_told<R: Clock + Eprint + Wait, W: Write, P: DatagramPort + Drop, D: JournalDevice + Drop>(
+    rt: &R,
+    port: &mut UdpHeadPort<'_, '_, R, W, P>,
     daemon: &mut HeadDaemon<D>,
     stays: bool,
     progress: &mut HeadProgress<'_, R>,

@@ -16,12 +16,21 @@ use std::rc::Rc;
 use std::rt::Files;
 
 /// A meter that was judged.
-#[derive(Drop)]
 pub(crate) enum Judged {
     /// Its file is there, and has it.
     Found(MeterCore<FileStore>),
     /// No file is there. Its store is made with this.
     New(Rc<NewStore>),
+}
+
+// Written out, so that letting go of it is one call in a proof. A derived `Drop` is unfolded there field by field, which takes minutes.
+impl Drop for Judged {
+    fn drop(self) {
+        match self {
+            Judged::Found(_) => {}
+            Judged::New(_) => {}
+        }
+    }
 }
 
 impl Judged {
@@ -55,7 +64,7 @@ impl<'a> Judge<'a> {
         Judge { fresh, store: None }
     }
 
-    /// The meter in a file, or what it is made with where no file is there. No file is made.
+    /// The meter in a file, or what it is made with if no file is there. No file is made.
     pub(crate) fn meter<F: Files<File = File>>(
         &mut self,
         rt: &F,

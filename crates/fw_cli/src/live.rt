@@ -36,9 +36,9 @@ pub struct LiveOptions {
 
 /// Runs the script that the reader has, and lets workers make rounds over UDP sockets on this machine after its events. The writer gets
 /// the report of the world at the end, and the line `board N` with the number of rows that the workers counted as done, and before them
-/// the trace, where it is asked for, as of `run_rehearse`. The terminal, if there is one, shows how many rows are done meanwhile, as there.
+/// the trace, if it is asked for, as of `run_rehearse`. The terminal, if there is one, shows how many rows are done meanwhile, as there.
 ///
-/// Where there is a writer of captures, it gets first the capture of all datagrams that were sent, in the order of the trace.
+/// If there is a writer of captures, it gets first the capture of all datagrams that were sent, in the order of the trace.
 ///
 /// All input is read before anything is written, and what is written is flushed.
 ///
@@ -74,7 +74,7 @@ pub fn run_live<T: Threads + Wait + Net + Sync, R: Read, W: Write, C: Write, E: 
     write_text(writer, told.text.as_str())
 }
 
-/// What is written of a live rollout: its trace, where it is asked for, the report of its world, and the line of its board.
+/// What is written of a live rollout: its trace, if it is asked for, the report of its world, and the line of its board.
 fn tell_live<T: Threads + Wait + Net + Sync, E: Eprint + Sync>(
     rt: &T,
     alloc: Global,

@@ -1,28 +1,35 @@
 //! The command `meter`: a meter in a file answers datagrams over UDP until it is ended.
 
-ghost use Rattle.std.specs.Prelude.{◌≡◌, ◌≢◌, ◌⊎◌, Bool, None, Some, IfErr, IfOk, IsErr, IsTrue, OnOk, is_some};
+ghost use Rattle.std.specs.Prelude.{◌≡◌, ◌≢◌, ◌⊎◌, Bool, None, Some, IfErr, IfOk, IsErr, IsTrue, OnOk, false, is_some};
 ghost use Rattle.std.specs.Io.KnownBytes.{Appends, Keeps};
 ghost use Rattle.std.specs.declared.net.socket_addr.SocketAddr.{SocketAddr as Address};
 ghost use Rattle.fw_daemon.specs.Daemon.{daemon_of};
 ghost use Rattle.fw_store.specs.Setup.{IsSetup};
 ghost use Rattle.fw_store.specs.declared.version.HeaderVersion.TheVariants.{Two};
-ghost use Rattle.fw_cli.specs.Faults.{IsOfMeter, IsOfServing, NamesMeter};
+ghost use Rattle.fw_cli.specs.Faults.{IsKeyed, IsOfMeter, IsOfServing, NamesMeter, count_of};
 ghost use Rattle.fw_host.specs.Captures.{IsOfCapture};
 ghost use Rattle.fw_host.specs.Meters.{activated_line, default_factory, dropped_line, listening_line};
 ghost use Rattle.fw_host.specs.Strangers.{is_strange, is_stranger};
 ghost use Rattle.fw_host.specs.Telling.{Told};
+ghost use Rattle.fw_cli.specs.Sealing.{IsMeterSealing, links_in};
 ghost use Rattle.fw_cli.specs.Telling.{TellsRounds, lack_of, lines_of, said_of};
 
 use crate::capture_file::{CaptureFile, closing, failure_of};
 use crate::fleet::serve_fleet;
 use crate::judged::Judge;
+use crate::sealing::{JudgedSealing, keyed_meter};
 use fw_daemon::{Dropped, MeterDaemon, Watch, serve};
 use fw_disk::{Because, Reason};
 use fw_faults::{Fault, write_text};
-use fw_host::{CapturePort, Lines, NewMeter, Strangers, listening_line};
+use fw_host::{
+    CapturePort, ClosedBy, DatagramPort, Lines, NewMeter, Sealing, SealingOptions, Strangers,
+    listening_line,
+};
+use fw_journal::FileDevice;
 use fw_names::ImageName;
-use fw_port::{Closed, SocketError, UdpPort};
+use fw_port::{Closed, NoReport, Port, SocketError, UdpPort};
 use fw_recording::Sink;
+use fw_sealport::SealedPort;
 use fw_store::FileStore;
 use std::alloc::Global;
 use std::fs::File;
@@ -40,18 +47,20 @@ const DROPPED_EVERY: u64 = 60;
 pub struct MeterOptions<'a> {
     /// The address that datagrams are received at.
     pub listen: SocketAddr,
-    /// The addresses that may ask, and any where none is given.
+    /// The addresses that may ask, and any if none is given.
     pub heads: Vec<SocketAddr>,
     /// The path of the file that has the meter.
     pub store: &'a str,
-    /// What a new meter is made with. Where a file is there, this isn't looked at.
+    /// What a new meter is made with. If a file is there, this isn't looked at.
     pub fresh: NewMeter<'a>,
     /// How many meters there are, at least 1. Without a number there is one, at just this address and in just this file.
     pub count: Option<u32>,
-    /// The path of the file of the capture, where one is asked for.
+    /// The path of the file of the capture, if one is asked for.
     pub capture: Option<&'a str>,
     /// Whether it has the datagrams of addresses that may not ask too.
     pub captures_strangers: bool,
+    /// What its links are sealed with, where keys are given. There is one meter then, whatever the count.
+    pub sealing: Option<SealingOptions<'a>>,
 }
 
 /// Why the command ended.
@@ -59,7 +68,7 @@ pub struct MeterOptions<'a> {
 pub struct MeterFault {
     /// The fault.
     pub fault: Fault,
-    /// The number of the meter that couldn't be set up, from 1 on, where there is a count of them.
+    /// The number of the meter that couldn't be set up, from 1 on, if there is a count of them.
     pub number: Option<u32>,
     /// Why its file, or the one of the capture, was refused, if that is known.
     pub reason: Option<Reason>,
@@ -105,17 +114,20 @@ impl From<Fault> for MeterFault {
     }
 }
 
-/// The meter in a file answers datagrams over UDP until the process is ended, at any moment. Where no file is there, it is made.
+/// The meter in a file answers datagrams over UDP until the process is ended, at any moment. If no file is there, it is made.
 ///
 /// With a count K there are meters 1 to K: meter N receives at the port of the options and N - 1 more, and its file is that of the options
 /// with `.N` after it.
 ///
-/// Where a capture is asked for, its file is gone on with, or made where no file is there. It gets the start of the process, what is received
+/// If a capture is asked for, its file is gone on with, or made if no file is there. It gets the start of the process, what is received
 /// and sent, each before it is handled or sent, and each turn of a verification. What comes from addresses that may not ask is counted in it,
 /// unless that is asked for too.
 ///
-/// All sockets are bound first. Then each meter's file that is there is opened, and what new meters are made with is judged. The file of the
-/// capture comes next, and new files of meters last.
+/// With keys there is one meter, and each datagram that it takes and sends is sealed, on one of the links of the file of its keys. What comes
+/// from elsewhere, or doesn't open, is dropped. The counters of what it sends are in the file of the meter with `.counter` after it.
+///
+/// All sockets are bound first, and keys are read. Then each meter's file that is there is opened, what new meters are made with is judged,
+/// and counters that are there are opened. The file of the capture comes next, then a new one of counters, and new files of meters last.
 ///
 /// The writer gets the line `listening ..`, once datagrams are received, `activated ..` for each image that the meter switches to, and
 /// `dropped ..` where more was dropped, once a minute at most. Each is flushed. After the first, a line that can't be written is lost.
@@ -125,36 +137,46 @@ impl From<Fault> for MeterFault {
 /// It ends by one of these alone, with the number of the meter that couldn't be set up, if there is a count, and with why its file or that
 /// of the capture was refused, if that is known.
 ///
-/// - `Socket`: the address can't be received at, or is past port 65,535. No file was made. Or the socket failed 1,000 times in a row while the
-///   meter served.
+/// - `Socket`: the address can't be received at, or is past port 65,535. No file was made. Or the socket failed 1,000 times in a row while
+///   the meter served.
 /// - `StoreFault`: the file can't be opened, or another store has it open; no file of a meter was made. Or it can't be made.
 /// - `Device`, which prints `Fault`: the file can't be read, or its header not be written in version 2.
 /// - `BadFile`, `BadHeader` or `BadImage`: the file holds no meter. It is left as it is.
+/// - `KeysFault`, `KeysReadable`, `BadKeys`: the file of the keys can't be opened or read, others than its owner may read it, or this line is
+///   none of it. No file was made.
+/// - `NoCounter`, `CounterExists`: no file of counters is there and none is to be made, or one is there and is to be made. No file was made.
+///   `CounterLocked`: another process has it.
+/// - `CounterFault`: it can't be made, opened or read, or holds no counters; no file of a meter was made. Or it can't be written while the
+///   meter serves, and nothing is sent from then on.
+/// - `CounterSpent`: all counters are used, and nothing is sent from then on.
 /// - `FactoryFault`: no file is there, and the one of the factory image can't be read. No file was made.
 /// - `BadSetup`: no file is there, and the options describe no meter. No file was made.
-/// - `CaptureFault`: the file of the capture can't be made or opened, or another process has it. No file of a meter was made. Or a record can't
-///   be written while the meter serves: what it is of wasn't handled or sent.
+/// - `CaptureFault`: the file of the capture can't be made or opened, or another process has it. No file of a meter was made. Or a record
+///   can't be written while the meter serves: what it is of wasn't handled or sent.
 /// - `ForeignCapture`: the file holds something else than a capture of a daemon. It is left as it is, and no file of a meter was made.
 /// - `Output`: the first line can't be written.
 /// - `OutOfMemory`: it didn't serve.
-pub fn run_meter<R: Files<File = File> + Clock + Net + Wait, W: Write>(
+pub fn run_meter<R: Files<File = File> + Clock + Eprint + Net + Wait, W: Write>(
     rt: &R,
     alloc: Global,
     writer: &mut W,
     options: MeterOptions<'_>,
 ) -> Result<(), MeterFault>
     ensures ends { IsErr result }
-    ensures number { IfErr result (NamesMeter options.entry.count) }
+    ensures number { IfErr result (NamesMeter (count_of options.entry)) }
     ensures bad_setup { options.entry.fresh.factory_file ≡ None → IfErr result (λ e. e.fault ≡ Fault.BadSetup
         → ¬ IsSetup Two options.entry.fresh.block_size options.entry.fresh.capacity default_factory) }
     ensures silent { IfErr result (λ e. e.fault ≢ Fault.Socket → e.fault ≢ Fault.Output → e.fault ≢ Fault.CaptureFault
-        → Keeps (W.contents writer.old) (W.contents writer.new)) }
+        → e.fault ≢ Fault.CounterFault → e.fault ≢ Fault.CounterSpent → Keeps (W.contents writer.old) (W.contents writer.new)) }
     ensures asked { IfErr result (λ e. IsOfCapture e.fault → IsTrue (is_some options.entry.capture)) }
+
+    // What is of sealed links comes where keys are given alone.
+    ensures keyed { IfErr result (λ e. IsKeyed options.entry.sealing e.fault) }
     ensures faults { IfErr result (λ e. IsOfMeter e.fault) }
 {
     match options.count {
-        Some(count) => serve_fleet(rt, alloc, writer, &options, count),
-        None => match serve_one(rt, alloc, writer, &options) {
+        Some(count) if options.sealing.is_none() => serve_fleet(rt, alloc, writer, &options, count),
+        _ => match serve_one(rt, alloc, writer, &options) {
             Ok(()) => Ok(()),
             Err(because) => Err(MeterFault::from(because)),
         },
@@ -162,7 +184,7 @@ pub fn run_meter<R: Files<File = File> + Clock + Net + Wait, W: Write>(
 }
 
 /// The command for one meter.
-fn serve_one<R: Files<File = File> + Clock + Net + Wait, W: Write>(
+fn serve_one<R: Files<File = File> + Clock + Eprint + Net + Wait, W: Write>(
     rt: &R,
     alloc: Global,
     writer: &mut W,
@@ -172,15 +194,19 @@ fn serve_one<R: Files<File = File> + Clock + Net + Wait, W: Write>(
     ensures bad_setup { options.now.fresh.factory_file ≡ None → IfErr result (λ b. b.error ≡ Fault.BadSetup
         → ¬ IsSetup Two options.now.fresh.block_size options.now.fresh.capacity default_factory) }
     ensures silent { IfErr result (λ b. b.error ≢ Fault.Socket → b.error ≢ Fault.Output → b.error ≢ Fault.CaptureFault
-        → Keeps (W.contents writer.old) (W.contents writer.new)) }
+        → b.error ≢ Fault.CounterFault → b.error ≢ Fault.CounterSpent → Keeps (W.contents writer.old) (W.contents writer.new)) }
     ensures asked { IfErr result (λ b. IsOfCapture b.error → IsTrue (is_some options.now.capture)) }
+    ensures keyed { IfErr result (λ b. IsKeyed options.now.sealing b.error) }
     ensures faults { IfErr result (λ b. IsOfMeter b.error) }
 {
     let Listening { port, at } = Listening::of(UdpPort::bind(rt, options.listen))?;
+    let keyed = keyed_meter(rt, alloc, options.sealing)?;
     let judged = Judge::of(options.fresh).meter(rt, alloc, options.store)?;
+    let links = JudgedSealing::of(rt, alloc, options.store, keyed)?;
     let strangers = strangers_of(alloc, &options.heads, options.captures_strangers)?;
     let heads = heads_of(alloc, options)?;
     let file = CaptureFile::opened(rt, alloc, options.capture)?;
+    let sealing = links.made(rt, alloc, options.store)?;
     let meter = judged.made(rt, options.store)?;
     let mut daemon = MeterDaemon::new(meter, heads);
     serve_daemon(
@@ -193,6 +219,7 @@ fn serve_one<R: Files<File = File> + Clock + Net + Wait, W: Write>(
             strangers,
             file,
             capture: options.capture,
+            sealing,
         },
         &mut daemon,
         options,
@@ -219,7 +246,8 @@ pub(crate) fn strangers_of(
     Ok(Strangers::of_meter(alloc, heads, are_recorded)?)
 }
 
-/// A socket with its address, with those who are strangers to it, and with the file of its capture, where one is asked for.
+/// A socket with its address, with those who are strangers to it, with the file of its capture, if one is asked for, and with what its links
+/// are sealed with, if there are keys.
 #[derive(Drop)]
 pub(crate) struct RecordedPort<'a> {
     pub(crate) port: UdpPort,
@@ -227,6 +255,7 @@ pub(crate) struct RecordedPort<'a> {
     pub(crate) strangers: Strangers,
     pub(crate) file: Option<CaptureFile>,
     pub(crate) capture: Option<&'a str>,
+    pub(crate) sealing: Option<Sealing>,
 }
 
 /// Serves this meter, until its port is closed.
@@ -241,10 +270,14 @@ fn serve_daemon<R: Files<File = File> + Clock + Wait, W: Write>(
     // Just the addresses of the options may ask, and who has none of them is a stranger.
     requires heads { (daemon_of daemon.old).heads ≡ options.now.heads.items }
     requires strangers { (address : Address) → is_stranger port.strangers.known address ≡ is_strange options.now.heads.items address }
+
+    // If keys are given, its links are those of their file. Without keys it has none.
+    requires links { IsMeterSealing options.now.sealing (links_in port.sealing) }
     ensures ends { IsErr result }
     ensures silent { IfErr result (λ b. b.error ≢ Fault.Socket → b.error ≢ Fault.Output → b.error ≢ Fault.CaptureFault
-        → Keeps (W.contents writer.old) (W.contents writer.new)) }
+        → b.error ≢ Fault.CounterFault → b.error ≢ Fault.CounterSpent → Keeps (W.contents writer.old) (W.contents writer.new)) }
     ensures asked { IfErr result (λ b. IsOfCapture b.error → IsTrue (is_some port.entry.capture)) }
+    ensures keyed { IfErr result (λ b. IsKeyed options.now.sealing b.error) }
     ensures faults { IfErr result (λ b. IsOfServing b.error) }
 {
     let RecordedPort {
@@ -253,37 +286,76 @@ fn serve_daemon<R: Files<File = File> + Clock + Wait, W: Write>(
         mut strangers,
         mut file,
         capture,
+        sealing,
     } = port;
     tell_listening(alloc, writer, at)?;
     let mut lines = Lines::new(alloc, writer);
     let recorder = file.as_mut();
     let mut port = CapturePort::of_meter(rt, alloc, &mut socket, at, &mut strangers, recorder);
-    let Closed = serve_told(rt, alloc, &mut lines, &mut port, daemon);
-    let has_failed = port.has_failed();
-    drop(port);
-    Err(closing(capture, has_failed, failure_of(file.as_ref())))
+    let by = match sealing {
+        Some(Sealing { links, counters }) => {
+            let mut port = SealedPort::new(alloc, port, links, counters);
+            serve_sealed(rt, alloc, &mut lines, &mut port, daemon, options)
+        }
+        None => serve_plain(rt, alloc, &mut lines, &mut port, daemon, options),
+    };
+    Err(closing(capture, options.sealing, by, failure_of(file.as_ref())))
 }
 
-/// Serves this meter, until its port is closed, and writes the lines of what there is to tell of it.
-fn serve_told<R: Clock + Wait, W: Write, V: Sink + Drop>(
+/// Serves this meter, which has no keys, until its port is closed. It returns why that is.
+fn serve_plain<R: Clock + Wait, W: Write, V: Sink + Drop>(
     rt: &R,
     alloc: Global,
     lines: &mut Lines<'_, W>,
     port: &mut CapturePort<'_, R, V>,
     daemon: &mut MeterDaemon<FileStore>,
-) -> Closed {
+    options: &MeterOptions<'_>,
+) -> ClosedBy
+    requires plain { options.now.sealing ≡ None }
+{
+    let Closed = serve_told(rt, alloc, lines, port, daemon);
+    port.closed_by()
+}
+
+/// Serves this meter over the links of its keys alone, until its port is closed. It returns why that is.
+fn serve_sealed<R: Clock + Wait, W: Write, V: Sink + Drop>(
+    rt: &R,
+    alloc: Global,
+    lines: &mut Lines<'_, W>,
+    port: &mut SealedPort<CapturePort<'_, R, V>, FileDevice>,
+    daemon: &mut MeterDaemon<FileStore>,
+    options: &MeterOptions<'_>,
+) -> ClosedBy
+    requires links { IsMeterSealing options.now.sealing (Some port.old.links) }
+{
+    let Closed = serve_told(rt, alloc, lines, port, daemon);
+    port.closed_by()
+}
+
+/// Serves this meter, until its port is closed, and writes the lines of what there is to tell of it.
+fn serve_told<R: Clock + Wait, W: Write, P: Port<NoReport>>(
+    rt: &R,
+    alloc: Global,
+    lines: &mut Lines<'_, W>,
+    port: &mut P,
+    daemon: &mut MeterDaemon<FileStore>,
+) -> Closed
+    requires unknown { P.honest port.old ≡ false }
+{
     let mut teller = Teller::new(rt, lines);
     serve_watched(rt, alloc, port, daemon, &mut teller)
 }
 
 /// The same, told by this teller: each image that the meter switches to, once and in order.
-fn serve_watched<R: Clock + Wait, W: Write, V: Sink + Drop>(
+fn serve_watched<R: Clock + Wait, W: Write, P: Port<NoReport>>(
     rt: &R,
     alloc: Global,
-    port: &mut CapturePort<'_, R, V>,
+    port: &mut P,
     daemon: &mut MeterDaemon<FileStore>,
     teller: &mut Teller<'_, '_, R, W>,
 ) -> Closed
+    // It isn't known what comes, and what becomes of what is sent.
+    requires unknown { P.honest port.old ≡ false }
     ensures lines { teller.new.lines.ghost_name ≡ teller.old.lines.ghost_name }
     ensures writer { teller.new.lines.now.writer.ghost_name ≡ teller.old.lines.now.writer.ghost_name }
     ensures told { TellsRounds (daemon_of daemon.old) (daemon_of daemon.new) teller.old.lines.now.lost teller.new.lines.now.lost
@@ -322,6 +394,7 @@ pub(crate) struct Teller<'a, 'w, C: Clock, W: Write> {
     /// What the last line about it said.
     dropped: Dropped,
     faults: u64,
+    unopened: u64,
     /// When that was.
     told_at: Option<Instant>,
 }
@@ -342,6 +415,7 @@ impl<'a, 'w, C: Clock, W: Write> Teller<'a, 'w, C, W> {
                 unserved: 0,
             },
             faults: 0,
+            unopened: 0,
             told_at: Instant::now(rt).ok(),
         }
     }
@@ -359,15 +433,15 @@ impl<'a, 'w, C: Clock, W: Write> Teller<'a, 'w, C, W> {
         }
     }
 
-    /// Reports what was dropped where that is not what the last line said, and a minute or more after that line. Where the system
+    /// Reports what was dropped if that is not what the last line said, and a minute or more after that line. Where the system
     /// has no time, it reports nothing.
-    fn tell_dropped(&mut self, dropped: Dropped, faults: u64)
+    fn tell_dropped(&mut self, dropped: Dropped, faults: u64, unopened: u64)
         ensures lines { self.new.lines.ghost_name ≡ self.old.lines.ghost_name }
         ensures writer { self.new.lines.now.writer.ghost_name ≡ self.old.lines.now.writer.ghost_name }
-        ensures told { (says : Bool) × Told (lines_of (lack_of says dropped faults)) self.old.lines.now.lost self.new.lines.now.lost
+        ensures told { (says : Bool) × Told (lines_of (lack_of says dropped faults unopened)) self.old.lines.now.lost self.new.lines.now.lost
             (W.contents self.old.lines.now.writer.now) (W.contents self.new.lines.now.writer.now) }
     {
-        if dropped == self.dropped && faults == self.faults {
+        if dropped == self.dropped && faults == self.faults && unopened == self.unopened {
             return;
         }
         let Ok(now) = Instant::now(self.rt) else {
@@ -378,8 +452,9 @@ impl<'a, 'w, C: Clock, W: Write> Teller<'a, 'w, C, W> {
         }
         self.dropped = dropped;
         self.faults = faults;
+        self.unopened = unopened;
         self.told_at = Some(now);
-        self.lines.tell_dropped(dropped, faults);
+        self.lines.tell_dropped(dropped, faults, unopened);
     }
 }
 
@@ -392,9 +467,15 @@ impl<'a, 'w, C: Clock, W: Write> Watch for Teller<'a, 'w, C, W> {
         × IsSaid names start.lines.now.lost teller.lines.now.lost (W.contents start.lines.now.writer.now)
         (W.contents teller.lines.now.writer.now) };
 
-    fn round(&mut self, activated: Option<ImageName>, dropped: Dropped, faults: u64) {
+    fn round(
+        &mut self,
+        activated: Option<ImageName>,
+        dropped: Dropped,
+        faults: u64,
+        unopened: u64,
+    ) {
         self.tell_switch(activated);
-        self.tell_dropped(dropped, faults);
+        self.tell_dropped(dropped, faults, unopened);
     }
 }
 

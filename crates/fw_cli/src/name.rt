@@ -41,7 +41,7 @@ const DIGITS: usize = 2 * MAX_NAME_SIZE;
 pub struct NameOptions {
     /// The campaign that offers the image.
     pub campaign: CampaignId,
-    /// The image's release, and 0 where it has none; images that meters are made with have none.
+    /// The image's release, and 0 if it has none; images that meters are made with have none.
     pub release: u32,
 }
 

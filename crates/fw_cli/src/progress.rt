@@ -55,7 +55,7 @@ pub(crate) struct RowsGate<'a, E: Eprint> {
     line: Line<'a, E>,
     /// How many rows there are.
     rows: u64,
-    /// How many rows are shown as done, and one more. 0 where nothing is shown.
+    /// How many rows are shown as done, and one more. 0 if nothing is shown.
     shown: AtomicU64,
     /// Whether a worker writes.
     is_taken: AtomicBool,

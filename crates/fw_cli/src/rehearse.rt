@@ -39,13 +39,13 @@ pub struct RehearseOptions<'a> {
 }
 
 /// Runs the script that the reader has, and lets workers make rounds after its events. The writer gets the report of the world at the
-/// end, and the line `board N` with the number of rows that the workers counted as done. A trace, where it is asked for, stands before
+/// end, and the line `board N` with the number of rows that the workers counted as done. A trace, if it is asked for, stands before
 /// the report, as that of `run_replay`: its datagrams have the order in which the workers' events were recorded.
 ///
 /// The terminal, if there is one, shows meanwhile how many rows are done, in a line that is cleared before anything is written to the
-/// writer. Where it fails, nothing else changes.
+/// writer. If it fails, nothing else changes.
 ///
-/// Where there is a writer of captures, it gets first the capture of all datagrams that were sent, in the order of the trace.
+/// If there is a writer of captures, it gets first the capture of all datagrams that were sent, in the order of the trace.
 ///
 /// All input is read before anything is written, and what is written is flushed.
 ///
@@ -129,7 +129,7 @@ fn rehearse_from<T: Threads + Wait + Sync, R: Read, W: Write, C: Write, E: Eprin
     write_text(writer, told.text.as_str())
 }
 
-/// What is written of a rehearsal: its trace, where it is asked for, the report of its world, and the line of its board.
+/// What is written of a rehearsal: its trace, if it is asked for, the report of its world, and the line of its board.
 fn tell_rehearsal<T: Threads + Wait + Sync, E: Eprint + Sync>(
     rt: &T,
     alloc: Global,

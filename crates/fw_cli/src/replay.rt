@@ -101,14 +101,14 @@ struct Told {
 }
 
 /// Runs the script that the reader has, and after its events the rounds that are asked for. The writer gets the report of the world after
-/// the last event, in the form that is asked for. Where an event is refused, it gets that of the world there, with the number of the event
-/// and why it was refused. A trace, where it is asked for, stands before the report: a line for each datagram that was sent, with its
+/// the last event, in the form that is asked for. If an event is refused, it gets that of the world there, with the number of the event
+/// and why it was refused. A trace, if it is asked for, stands before the report: a line for each datagram that was sent, with its
 /// number, who sent it to whom, and what it says.
 ///
 /// The terminal, if there is one, shows how many rounds are made and how many rows are done, in a line that is cleared before anything is
-/// written to the writer. Where it fails, nothing else changes.
+/// written to the writer. If it fails, nothing else changes.
 ///
-/// Where there is a writer of captures, it gets first the capture of all datagrams that were sent, also where an event is refused.
+/// If there is a writer of captures, it gets first the capture of all datagrams that were sent, also if an event is refused.
 ///
 /// All input is read before anything is written, and what is written is flushed.
 ///
@@ -279,7 +279,7 @@ fn tell_run(alloc: Global, setup: &Setup, events: &[Event], style: Style) -> Res
     }
 }
 
-/// What is written of a world: the trace of what was sent, where it is asked for, and the report, with the event that was refused there.
+/// What is written of a world: the trace of what was sent, if it is asked for, and the report, with the event that was refused there.
 fn tell_world(
     alloc: Global,
     setup: &Setup,

@@ -25,11 +25,11 @@ use std::rt::Files;
 pub struct StoredOptions<'a> {
     /// The path of the file.
     pub file: &'a str,
-    /// The meter that is made where no file is there. Where one is, this isn't looked at.
+    /// The meter that is made if no file is there. If one is, this isn't looked at.
     pub fresh: AnswerOptions<'a>,
 }
 
-/// The meter in a file answers each line that the reader has, as a new one does in `run_answer`. Where no file is there, it
+/// The meter in a file answers each line that the reader has, as a new one does in `run_answer`. If no file is there, it
 /// is made, with a new meter. One that is there is never emptied or made anew; a header of version 1 in it is written in
 /// version 2 before anything is read. Of the file's contents nothing is known here, so the replies are those of some meter.
 ///
@@ -65,7 +65,7 @@ pub fn run_answer_stored<F: Files<File = File>, R: Read, W: Write>(
     ensures bad_setup { IfErr result (λ b. b.error ≡ Fault.BadSetup → DescribesNone options.now.fresh) }
     ensures setup_first { IfErr result (λ b. ComesBeforeInput b.error → Keeps (R.remaining reader.old) (R.remaining reader.new)) }
 
-    // Where nothing was read, memory was refused for a meter that the options describe.
+    // If nothing was read, memory was refused for a meter that the options describe.
     ensures memory { IfErr result (λ b. b.error ≡ Fault.OutOfMemory → DescribesOne options.now.fresh
         ⊎ Gives (R.remaining reader.old) (R.remaining reader.new) (λ count. (1 ≤ count) × (count ≤ max_input))) }
 

@@ -38,7 +38,7 @@ pub(crate) fn script_from<R: Read>(alloc: Global, reader: &mut R) -> Result<Scri
     read_script(alloc, &input)
 }
 
-/// What is written of workers who are accounted for: the trace of their run, where it is asked for, then the report of the world that
+/// What is written of workers who are accounted for: the trace of their run, if it is asked for, then the report of the world that
 /// they led to, and the line of the board.
 pub(crate) fn tell_report(
     alloc: Global,

@@ -11,7 +11,7 @@ use Rattle.fw_daemon.specs.declared.daemon.Heard.TheVariants as heard
 use Rattle.fw_daemon.specs.declared.daemon.MeterDaemon.{MeterDaemon}
 
 pub record Daemon : Type 0 where
-  -- the addresses that may ask; where there is none, any may
+  -- the addresses that may ask; if there is none, any may
   pub heads : List SocketAddr
   -- the meter and its store
   pub state : State

@@ -69,7 +69,7 @@ abbrev pub GoesRounds : Daemon → List (Option Name) → Daemon → Type 0
 GoesRounds start [] now = now ≡ start
 GoesRounds start (activated ∷ rounds) now = (before : Daemon) × GoesRounds start rounds before × GoesRound before activated now
 
--- the name of the image, where there is one
+-- the name of the image, if there is one
 abbrev pub named : Option Name → List Name
 named None = []
 named (Some name) = name ∷ []

@@ -32,7 +32,7 @@ Takes old from datagram reply new =
     IsAnswered old from datagram reply new ⊎ (IsUnserved old from datagram reply new ⊎ IsStrange old from reply new)
 
 -- What was done, the newest first, is what a daemon does that was as start and is as now. A datagram that it sent is its reply to the
--- one that came just before, and goes to where that came from. One after which none was sent has no reply. Where nothing came, the meter
+-- one that came just before, and goes to where that came from. One after which none was sent has no reply. If nothing came, the meter
 -- took a turn. It does nothing else.
 abbrev pub Serving : Daemon → List Act → Daemon → Type 0
 Serving start [] now = now ≡ start

@@ -40,7 +40,7 @@ pub struct MeterDaemon<S: ImageStore + Drop> {
 }
 
 impl<S: ImageStore + Drop> MeterDaemon<S> {
-    /// The daemon of a meter. Just these addresses may ask, and any address where none is given.
+    /// The daemon of a meter. Just these addresses may ask, and any address if none is given.
     pub fn new(meter: MeterCore<S>, heads: Vec<SocketAddr>) -> MeterDaemon<S>
         ensures { daemon_of result ≡ record { heads = heads.items; state = meter; strangers = 0; unserved = 0 } }
     {

@@ -21,17 +21,17 @@ pub trait Watch {
     ghost tells: { Self → List Name → Self → Type 0 } = { λ _ _ _. ⊤ };
 
     /// It is called after each round, with the name of the image that the meter switched to in it, where it did, with how many
-    /// datagrams were dropped so far, and with how often the port failed.
-    fn round(&mut self, activated: Option<ImageName>, dropped: Dropped, faults: u64)
+    /// datagrams were dropped so far, with how often the port failed, and with how many datagrams it didn't open.
+    fn round(&mut self, activated: Option<ImageName>, dropped: Dropped, faults: u64, unopened: u64)
         ensures tells { (start : Self) (names : List Name) → tells start names self.old → tells start (names ++ named activated) self.new };
 }
 
-/// One round: what comes is handled and replied to. Where nothing came, or a stranger's datagram did, the meter takes a turn. While an
+/// One round: what comes is handled and replied to. If nothing came, or a stranger's datagram did, the meter takes a turn. While an
 /// image is verified nothing is waited for. It returns the name of the image that the meter switched to, where it did.
 ///
 /// # Errors
 ///
-/// `Closed` where the port is closed. Nothing was done then.
+/// `Closed` if the port is closed. Nothing was done then.
 pub fn step<P: Port<NoReport>, S: ImageStore + Drop>(
     alloc: Global,
     port: &mut P,
@@ -98,7 +98,9 @@ pub fn serve<R: Wait, P: Port<NoReport>, S: ImageStore + Drop, W: Watch>(
 {
     for _ in rt.forever() {
         match step(alloc, port, daemon) {
-            Ok(activated) => watch.round(activated, daemon.dropped(), port.faults()),
+            Ok(activated) => {
+                watch.round(activated, daemon.dropped(), port.faults(), port.unopened());
+            }
             Err(closed) => return closed,
         }
     }

@@ -1,6 +1,6 @@
 -- Public vocabulary: what is reported of a capture. Each datagram has a line: its number, the address and the port that it came from and went to,
 -- and what it says. Each note has one too. Other packets have none.
-use Rattle.std.specs.Prelude.{◌≡◌, ℕ, ◌+◌, ◌==◌, ◌||◌, if◌then◌else◌, Bool, false, List, [], ◌∷◌, ◌++◌, Option, Some, None, slice_get, codes, decimal}
+use Rattle.std.specs.Prelude.{◌≡◌, ◌⊎◌, ℕ, ◌+◌, ◌==◌, ◌||◌, if◌then◌else◌, Bool, false, List, [], ◌∷◌, ◌++◌, length, Option, Some, None, slice_get, codes, decimal}
 use Rattle.std.specs.Net.Addr.{segments_of}
 use Rattle.std.specs.Net.Text.{ipv4_text, ipv6_text}
 use Rattle.fw_capture.specs.declared.fault.CaptureError.{CaptureError}
@@ -11,8 +11,10 @@ use Rattle.fw_world.specs.declared.datagram.Direction.{Direction}
 use Rattle.fw_world.specs.declared.datagram.Direction.TheVariants.{ToMeter, ToHead}
 use Rattle.fw_report.specs.declared.message.Message.{Message}
 use Rattle.fw_report.specs.Message.{Says}
-use Rattle.fw_report.specs.Trace.{message_words}
+use Rattle.fw_report.specs.Trace.{in_bytes, message_words}
 use Rattle.fw_recording.specs.Records.{HoldsRecords}
+use Rattle.fw_seal.specs.Sealing.{Ends}
+use Rattle.fw_unseal.specs.Unsealing.{LooksPlain, LooksSealed, OpensNot, OpensTo}
 
 -- ---- which way a datagram goes
 
@@ -26,6 +28,41 @@ is_request (Some tag) = tag == 0xc0 || tag == 0xc1 || tag == 0xc3
 abbrev pub direction_of : List ℕ → Direction
 direction_of bytes = if is_request (slice_get bytes 8) then ToMeter else ToHead
 
+-- ---- what a datagram says
+
+-- what its bytes say as they are
+pub record PlainWords (bytes words : List ℕ) : Type 0 where
+  pub message : Message
+  pub says : Says (direction_of bytes) bytes message
+  pub words_are : words ≡ message_words message
+
+-- behind the counter of a sealing, what its plain datagram says, or how many bytes it has
+abbrev pub opened_words : ℕ → List ℕ → List ℕ
+opened_words counter said = codes "sealed " ++ (decimal counter ++ (codes " " ++ said))
+
+abbrev pub unopened_words : ℕ → ℕ → List ℕ
+unopened_words counter size = codes "sealed " ++ (decimal counter ++ (codes " unopened " ++ in_bytes size))
+
+-- The other end of one of these links sealed it.
+pub record OpenedWords (links : List Ends) (bytes words : List ℕ) : Type 0 where
+  pub counter : ℕ
+  pub plain : List ℕ
+  pub opens : OpensTo links bytes counter plain
+  pub said : List ℕ
+  pub says : PlainWords plain said
+  pub words_are : words ≡ opened_words counter said
+
+-- It has the form of a sealing, and opens under none of them.
+pub record UnopenedWords (links : List Ends) (bytes words : List ℕ) : Type 0 where
+  pub counter : ℕ
+  pub looks : LooksSealed bytes counter
+  pub none : OpensNot links bytes
+  pub words_are : words ≡ unopened_words counter (length bytes)
+
+-- one of these; of a datagram that doesn't look sealed, what its bytes say
+abbrev pub AreWords : List Ends → List ℕ → List ℕ → Type 0
+AreWords links bytes words = OpenedWords links bytes words ⊎ (UnopenedWords links bytes words ⊎ (LooksPlain bytes × PlainWords bytes words))
+
 -- ---- the lines
 
 -- an address and a port
@@ -36,9 +73,12 @@ endpoint_text (ipv6 octets port) = codes "[" ++ (ipv6_text (segments_of octets) 
 abbrev pub ends_text : Endpoint → Endpoint → List ℕ
 ends_text from to = endpoint_text from ++ (codes " -> " ++ endpoint_text to)
 
-abbrev pub datagram_line : ℕ → Endpoint → Endpoint → Message → List ℕ
-datagram_line number from to s =
-    decimal number ++ (codes " " ++ (ends_text from to ++ (codes "  " ++ (message_words s ++ codes "\n"))))
+-- what stands before the words of a line
+abbrev pub front_text : ℕ → Endpoint → Endpoint → List ℕ
+front_text number from to = decimal number ++ (codes " " ++ (ends_text from to ++ codes "  "))
+
+abbrev pub datagram_line : ℕ → Endpoint → Endpoint → List ℕ → List ℕ
+datagram_line number from to words = front_text number from to ++ (words ++ codes "\n")
 
 abbrev pub note_line : Note → List ℕ
 note_line notes.Start = codes "start\n"
@@ -46,10 +86,10 @@ note_line notes.Turn = codes "turn\n"
 note_line (notes.Strangers count) = codes "strangers " ++ (decimal count ++ codes "\n")
 
 -- the line of a record, of which the datagram has this number if it tells one
-abbrev pub IsLine : ℕ → Told → List ℕ → Type 0
-IsLine number (datagram from to bytes) line = (s : Message) × Says (direction_of bytes) bytes s × (line ≡ datagram_line number from to s)
-IsLine number (note n) line = line ≡ note_line n
-IsLine number other line = line ≡ []
+abbrev pub IsLine : List Ends → ℕ → Told → List ℕ → Type 0
+IsLine links number (datagram from to bytes) line = (words : List ℕ) × AreWords links bytes words × (line ≡ datagram_line number from to words)
+IsLine links number (note n) line = line ≡ note_line n
+IsLine links number other line = line ≡ []
 
 -- the number of the next datagram
 abbrev pub number_after : ℕ → Told → ℕ
@@ -58,13 +98,13 @@ number_after number (note n) = number
 number_after number other = number
 
 -- the lines of records, one after another, of which the first datagram has this number
-abbrev pub AreLines : ℕ → List (ℕ × Told) → List ℕ → Type 0
-AreLines number [] text = text ≡ []
-AreLines number (r ∷ records) text =
-    (line : List ℕ) × (rest : List ℕ) × IsLine number r.1 line × AreLines (number_after number r.1) records rest × (text ≡ line ++ rest)
+abbrev pub AreLines : List Ends → ℕ → List (ℕ × Told) → List ℕ → Type 0
+AreLines links number [] text = text ≡ []
+AreLines links number (r ∷ records) text =
+    (line : List ℕ) × (rest : List ℕ) × IsLine links number r.1 line × AreLines links (number_after number r.1) records rest × (text ≡ line ++ rest)
 
--- The text tells all of a capture up to its end, or up to its first fault. Datagrams are numbered from 0.
-pub record TellsCapture (capture : List ℕ) (ending : Option CaptureError) (text : List ℕ) : Type 0 where
+-- The text tells all of a capture up to its end, or up to its first fault, to who has these links. Datagrams are numbered from 0.
+pub record TellsCapture (links : List Ends) (capture : List ℕ) (ending : Option CaptureError) (text : List ℕ) : Type 0 where
   pub records : List (ℕ × Told)
   pub holds : HoldsRecords capture records ending
-  pub lines : AreLines 0 records text
+  pub lines : AreLines links 0 records text

@@ -2,26 +2,25 @@
 
 ghost use Rattle.std.specs.Prelude.{◌≡◌, ◌+◌, ◌<◌, ◌^◌, ◌++◌, ℕ, List, codes, IfOk, OnOk, string_bytes};
 ghost use Rattle.fw_capture.specs.View.{endpoint_of, told_in};
-ghost use Rattle.fw_report.specs.declared.message.Message.{Message};
-ghost use Rattle.fw_report.specs.Message.{Says};
-ghost use Rattle.fw_dissect.specs.Lines.{IsLine, datagram_line, direction_of, endpoint_text, ends_text, note_line, number_after};
+ghost use Rattle.fw_dissect.specs.Lines.{AreWords, IsLine, datagram_line, endpoint_text, ends_text, front_text, note_line, number_after};
 
+use crate::words::append_words;
 use fw_capture::{Content, Note};
-use fw_report::{Message, answered, append_message, asked};
-use fw_world::Direction;
+use fw_seal::Link;
 use std::alloc::{AllocError, Global};
 use std::net::{Ipv6Addr, SocketAddr};
 
 /// Appends the line of what a record tells, and returns the number of the next datagram.
 pub(crate) fn append_line(
     alloc: Global,
+    links: &[Link],
     text: &mut String,
     number: u64,
     content: Option<Content<'_>>,
 ) -> Result<u64, AllocError>
     requires { number + 1 < 2 ^ 64 }
     ensures number { IfOk result (λ next. next ≡ number_after number (told_in content.entry)) }
-    ensures line { OnOk result ((line : List ℕ) × IsLine number (told_in content.entry) line
+    ensures line { OnOk result ((line : List ℕ) × IsLine links.now number (told_in content.entry) line
         × (string_bytes text.new ≡ string_bytes text.old ++ line)) }
 {
     match content {
@@ -31,7 +30,7 @@ pub(crate) fn append_line(
             Ok(number)
         }
         Some(Content::Datagram { from, to, bytes }) => {
-            append_datagram(alloc, text, number, from, to, bytes)?;
+            append_datagram(alloc, links, text, number, from, to, bytes)?;
             Ok(number + 1)
         }
     }
@@ -51,36 +50,39 @@ fn append_note(text: &mut String, note: Note) -> Result<(), AllocError>
 /// Appends the line of a datagram.
 fn append_datagram(
     alloc: Global,
+    links: &[Link],
     text: &mut String,
     number: u64,
     from: SocketAddr,
     to: SocketAddr,
     bytes: &[u8],
 ) -> Result<(), AllocError>
-    ensures { OnOk result ((s : Message) × Says (direction_of bytes.now) bytes.now s
-        × (string_bytes text.new ≡ string_bytes text.old ++ datagram_line number (endpoint_of from) (endpoint_of to) s)) }
+    ensures { OnOk result ((words : List ℕ) × AreWords links.now bytes.now words
+        × (string_bytes text.new ≡ string_bytes text.old ++ datagram_line number (endpoint_of from) (endpoint_of to) words)) }
 {
-    match said(alloc, bytes) {
-        Ok(message) => append_said(text, number, from, to, message),
-        Err(error) => Err(error),
-    }
+    append_front(text, number, from, to)?;
+    append_words(alloc, links, text, bytes)?;
+    append_end(text)
 }
 
-/// Appends the line of a datagram that says this.
-fn append_said(
+/// Appends what stands before the words of a line.
+fn append_front(
     text: &mut String,
     number: u64,
     from: SocketAddr,
     to: SocketAddr,
-    message: Message,
 ) -> Result<(), AllocError>
-    ensures { OnOk result (string_bytes text.new
-        ≡ string_bytes text.old ++ datagram_line number (endpoint_of from) (endpoint_of to) message) }
+    ensures { OnOk result (string_bytes text.new ≡ string_bytes text.old ++ front_text number (endpoint_of from) (endpoint_of to)) }
 {
     write!(text, "{number} ")?;
     append_ends(text, from, to)?;
-    text.push_str("  ")?;
-    append_message(text, message)?;
+    text.push_str("  ")
+}
+
+/// Appends the end of a line.
+fn append_end(text: &mut String) -> Result<(), AllocError>
+    ensures { OnOk result (string_bytes text.new ≡ string_bytes text.old ++ codes "\n") }
+{
     text.push_str("\n")
 }
 
@@ -107,25 +109,5 @@ fn append_endpoint(text: &mut String, at: SocketAddr) -> Result<(), AllocError>
             let (ip, port) = (Ipv6Addr::from_octets(at.ip().octets()), at.port());
             write!(text, "[{ip}]:{port}")
         }
-    }
-}
-
-/// What a datagram says.
-fn said(alloc: Global, bytes: &[u8]) -> Result<Message, AllocError>
-    ensures { IfOk result (Says (direction_of bytes.now) bytes.now) }
-{
-    match direction_of(bytes) {
-        Direction::ToMeter => asked(alloc, bytes),
-        Direction::ToHead => answered(alloc, bytes),
-    }
-}
-
-/// Which way a datagram goes.
-fn direction_of(bytes: &[u8]) -> Direction
-    ensures { result ≡ direction_of bytes.now }
-{
-    match bytes.get(8) {
-        Some(0xc0 | 0xc1 | 0xc3) => Direction::ToMeter,
-        _ => Direction::ToHead,
     }
 }

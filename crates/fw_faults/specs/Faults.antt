@@ -11,8 +11,12 @@ use Rattle.fw_kept.specs.declared.error.OpenError.{OpenError as ReopenError}
 use Rattle.fw_kept.specs.declared.error.OpenError.TheVariants as reopening
 use Rattle.fw_rollout.specs.declared.error.Stop.{Stop}
 use Rattle.fw_rollout.specs.declared.error.Stop.TheVariants as stop
+use Rattle.fw_keys.specs.declared.error.KeysError.{KeysError}
+use Rattle.fw_keys.specs.declared.error.KeysError.TheVariants as keys
+use Rattle.fw_counter.specs.declared.error.CounterError.{CounterError}
+use Rattle.fw_counter.specs.declared.error.CounterError.TheVariants as counter
 use Rattle.fw_faults.specs.declared.fault.Fault.{Fault}
-use Rattle.fw_faults.specs.declared.fault.Fault.TheVariants.{BadSetup, StoreFault, Device, BadFile, BadHeader, BadImage, Event, Mismatch, ThreadRefused, Socket, GateShut, BookExists, Locked, BookFault, BadBook, BadRecord, ForeignHead, Full, OutOfMemory}
+use Rattle.fw_faults.specs.declared.fault.Fault.TheVariants.{BadSetup, StoreFault, Device, BadFile, BadHeader, BadImage, Event, Mismatch, ThreadRefused, Socket, GateShut, BookExists, Locked, BookFault, BadBook, BadRecord, ForeignHead, Full, BadKeys, CounterFault, CounterSpent, OutOfMemory}
 
 -- the fault that says why a file was not made or opened
 abbrev pub fault_of_file : FileStoreError → Fault
@@ -61,3 +65,16 @@ fault_of_stop stop.Closed = Socket
 fault_of_stop stop.Full = Full
 fault_of_stop stop.BookFault = BookFault
 fault_of_stop stop.OutOfMemory = OutOfMemory
+
+-- the fault that says why a text is no key file
+abbrev pub fault_of_keys : KeysError → Fault
+fault_of_keys (keys.BadKeys line cause) = BadKeys line cause
+fault_of_keys keys.OutOfMemory = OutOfMemory
+
+-- The fault that says why counters weren't opened, or gave none. Where the file of a counter is missing is told before it is opened: one that
+-- is there and holds no counter is a fault of it.
+abbrev pub fault_of_counter : CounterError → Fault
+fault_of_counter counter.NoCounter = CounterFault
+fault_of_counter counter.CounterFault = CounterFault
+fault_of_counter counter.CounterSpent = CounterSpent
+fault_of_counter counter.OutOfMemory = OutOfMemory

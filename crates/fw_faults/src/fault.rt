@@ -2,12 +2,14 @@
 
 ghost use Rattle.std.specs.Prelude.{◌≡◌};
 ghost use Rattle.fw_faults.specs.declared.fault.Fault.TheVariants.{OutOfMemory};
-ghost use Rattle.fw_faults.specs.Faults.{fault_of_device, fault_of_file, fault_of_opening, fault_of_rehearsal, fault_of_reopening, fault_of_stop};
+ghost use Rattle.fw_faults.specs.Faults.{fault_of_counter, fault_of_device, fault_of_file, fault_of_keys, fault_of_opening, fault_of_rehearsal, fault_of_reopening, fault_of_stop};
 
 use fw_book::BookError;
 use fw_capture::CaptureError;
+use fw_counter::CounterError;
 use fw_image::OpenError;
 use fw_journal::JournalError;
+use fw_keys::{BadLine, KeysError};
 use fw_rollout::Stop;
 use fw_store::FileStoreError;
 use fw_workers::RehearseError;
@@ -15,7 +17,8 @@ use std::alloc::{AllocError, AllocFailed};
 use std::fmt;
 use thiserror::Error;
 
-/// Why a command ended early. It prints its name, and of a bad line the number too, and of a bad capture its fault and the offset.
+/// Why a command ended early. It prints its name, and of a bad line the number too, of a bad capture its fault and the offset, and of bad
+/// keys the number of the line and what is wrong with it.
 #[derive(Clone, Copy, Debug, PartialEq, Eq, Error)]
 pub enum Fault {
     /// The fates aren't 1 to 4,096 of the letters `d`, `x`, `t` and `l`.
@@ -88,6 +91,26 @@ pub enum Fault {
     OpenRefused(BookError),
     /// The book refused to cancel a campaign.
     CancelRefused(BookError),
+    /// A file of keys can't be opened, read or made.
+    KeysFault,
+    /// Others than its owner may read or write a file of keys.
+    KeysReadable,
+    /// The line of this number, counted from 1, is the first with which a text is no key file, and what is wrong with it.
+    BadKeys(u64, BadLine),
+    /// The list has the meter of this number, and the file of keys has no line of it.
+    NoKey(u32),
+    /// No file of a counter is there, and none is to be made.
+    NoCounter,
+    /// A counter is to be made where a file is there.
+    CounterExists,
+    /// Another process has the counter.
+    CounterLocked,
+    /// The file of a counter can't be made, opened, read, written or synced, or has no counter.
+    CounterFault,
+    /// All counters of the sealed datagrams are used.
+    CounterSpent,
+    /// The system gave no random bytes.
+    NoRandomness,
     /// The writer failed.
     Output,
     /// Memory ran out.
@@ -104,6 +127,8 @@ impl fmt::Display for Fault {
             Fault::BadBook(offset) => write!(f, "BadBook {offset}"),
             Fault::BadRecord(index) => write!(f, "BadRecord {index}"),
             Fault::NoAddress(meter) => write!(f, "NoAddress {meter}"),
+            Fault::BadKeys(number, cause) => write!(f, "BadKeys {number} {cause}"),
+            Fault::NoKey(meter) => write!(f, "NoKey {meter}"),
             Fault::OpenRefused(refusal) | Fault::CancelRefused(refusal) => {
                 fmt::Display::fmt(refusal, f)
             }
@@ -215,6 +240,29 @@ impl From<Stop> for Fault {
             Stop::Full => Fault::Full,
             Stop::BookFault => Fault::BookFault,
             Stop::OutOfMemory => Fault::OutOfMemory,
+        }
+    }
+}
+
+impl From<KeysError> for Fault {
+    ghost from_gives = { λ error fault. fault ≡ fault_of_keys error };
+
+    fn from(error: KeysError) -> Fault {
+        match error {
+            KeysError::BadKeys(number, cause) => Fault::BadKeys(number, cause),
+            KeysError::OutOfMemory => Fault::OutOfMemory,
+        }
+    }
+}
+
+impl From<CounterError> for Fault {
+    ghost from_gives = { λ error fault. fault ≡ fault_of_counter error };
+
+    fn from(error: CounterError) -> Fault {
+        match error {
+            CounterError::NoCounter | CounterError::CounterFault => Fault::CounterFault,
+            CounterError::CounterSpent => Fault::CounterSpent,
+            CounterError::OutOfMemory => Fault::OutOfMemory,
         }
     }
 }

@@ -41,7 +41,7 @@ impl Reads {
         self.made
     }
 
-    /// Reads once: the number of bytes, or nothing where the reader was interrupted.
+    /// Reads once: the number of bytes, or nothing if the reader was interrupted.
     ///
     /// # Errors
     ///

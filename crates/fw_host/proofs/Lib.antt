@@ -3,3 +3,4 @@ pub mod Listings
 mod Taken
 mod Makings
 pub mod Tellings
+mod Linkings

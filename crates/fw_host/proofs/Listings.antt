@@ -140,7 +140,7 @@ same_listed : (a b : Listed) → a.meter ≡ b.meter → a.address ≡ b.address
 unfolding listed_of
 same_listed a b meter address = ap (λ n. listed_of n a.address) meter ∙ ap (listed_of b.meter) address
 
--- where a text spells an address, it gives that one alone
+-- if a text spells an address, it gives that one alone
 one_address : (text : List ℕ) (a b : SocketAddr) → IsSocketText text a → IsAddressOf text b → a ≡ b
 one_address text a b spells (inl other) = IsSocketText_unique text a b spells other
 one_address text a b spells (inr none) = absurd (none a spells)
@@ -163,7 +163,7 @@ pub one_listed_or_host : (own : SocketAddr) (fields : List (List ℕ)) (a : List
     → NamesHost fields ⊎ ((b : Listed) → SpellsListed own fields b → a ≡ b)
 one_listed_or_host own fields a x = one_or_host own fields a x x.is_address
 
--- where a text spells an address that can't be asked, it has none that can
+-- if a text spells an address that can't be asked, it has none that can
 pub none_asked : (own : SocketAddr) (text : List ℕ) (a : SocketAddr) → IsSocketText text a → ¬ CanBeAsked own a
     → IsNoAddress text ⊎ ((b : SocketAddr) → IsAddressOf text b → ¬ CanBeAsked own b)
 none_asked own text a spells none = inr (λ b is asked. none (subst (CanBeAsked own) (sym (one_address text a b spells is)) asked))

@@ -8,7 +8,7 @@ use Rattle.fw_disk.specs.declared.name.Name.TheVariants.{Main, New}
 use Rattle.fw_disk.specs.Disk.{Disk, ChangesOnly}
 use Rattle.fw_disk.specs.Ours.{IsNamed}
 
--- What a cut making leaves of a capture: no more bytes than its file header has, and in front those of the header, or zeros where they are
+-- What a cut making leaves of a capture: no more bytes than its file header has, and in front those of the header, or zeros if they are
 -- not written yet, as far as they go.
 pub record IsBegunCapture (bytes : List ℕ) : Type 0 where
   pub most : length bytes ≤ 24

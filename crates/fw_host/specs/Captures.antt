@@ -18,18 +18,18 @@ use Rattle.fw_faults.specs.declared.fault.Fault.TheVariants as faults
 
 -- what a sink takes by a call
 module _ {S : Type 0} (takes : S → S → List ℕ → Type 0) where
-  -- Where there is a capture, the record of this was put into its sink, at some time, by one call and no other.
+  -- If there is a capture, the record of this was put into its sink, at some time, by one call and no other.
   abbrev pub Captures : Option S → Option S → Told → Type 0
   Captures None last told = last ≡ None
   Captures (Some first) None told = ⊥
   Captures (Some first) (Some last) told = (nanoseconds : ℕ) × takes first last (packet_bytes nanoseconds told)
 
-  -- Where there is a capture, the record of this is what was put into its sink last.
+  -- If there is a capture, the record of this is what was put into its sink last.
   abbrev pub IsRecorded : Option S → Told → Type 0
   IsRecorded None told = Unit {0}
   IsRecorded (Some last) told = (first : S) × (nanoseconds : ℕ) × takes first last (packet_bytes nanoseconds told)
 
-  -- Where there is a capture, the record of this was put, and before it the note of so many datagrams of strangers, if there are any.
+  -- If there is a capture, the record of this was put, and before it the note of so many datagrams of strangers, if there are any.
   abbrev pub CapturesNoted : ℕ → Option S → Option S → Told → Type 0
   CapturesNoted count first last told =
       MatchBool (nat_lt 0 count)
@@ -42,8 +42,8 @@ module _ {S : Type 0} (takes : S → S → List ℕ → Type 0) where
   CapturesAll count first last (told ∷ rest) =
       (mid : Option S) × CapturesNoted count first mid told × CapturesAll 0 mid last rest
 
-  -- What a process that starts puts into a capture with this front, as long as a file header, or all of it where it is shorter: the file header,
-  -- where the capture is empty, and the note of the start. Any other front is a file header.
+  -- What a process that starts puts into a capture with this front, as long as a file header, or all of it where it is shorter: the file
+  -- header, if the capture is empty, and the note of the start. Any other front is a file header.
   abbrev pub StartsCapture : List ℕ → ℕ → S → S → Type 0
   StartsCapture [] nanoseconds first last =
       (mid : S) × takes first mid file_header × takes mid last (packet_bytes nanoseconds (note notes.Start))

@@ -9,7 +9,7 @@ use Rattle.fw_rollout.specs.declared.daemon.Counts.{Counts}
 use Rattle.fw_rollout.specs.declared.ended.Ended.{Ended}
 use Rattle.fw_rollout.specs.Leading.{state_after}
 use Rattle.fw_faults.specs.declared.fault.Fault.{Fault}
-use Rattle.fw_faults.specs.declared.fault.Fault.TheVariants.{BadList, BadSetup, BookExists, BookFault, BadBook, BadRecord, CancelRefused, CaptureFault, ForeignCapture, ForeignHead, Full, ImageFault, ListFault, Locked, NoAddress, NoBook, OpenRefused, Output, OutOfMemory, Socket}
+use Rattle.fw_faults.specs.declared.fault.Fault.TheVariants.{BadList, BadSetup, BookExists, BookFault, BadBook, BadKeys, BadRecord, CancelRefused, CaptureFault, CounterExists, CounterFault, CounterLocked, CounterSpent, ForeignCapture, ForeignHead, Full, ImageFault, KeysFault, KeysReadable, ListFault, Locked, NoAddress, NoBook, NoCounter, NoKey, OpenRefused, Output, OutOfMemory, Socket}
 use Rattle.fw_report.specs.Report.{state_word}
 
 -- ---- the lines of `head`
@@ -91,12 +91,21 @@ IsOfHeadSetup (CancelRefused refusal) = Unit {0}
 IsOfHeadSetup BookExists = Unit {0}
 IsOfHeadSetup CaptureFault = Unit {0}
 IsOfHeadSetup ForeignCapture = Unit {0}
+IsOfHeadSetup KeysFault = Unit {0}
+IsOfHeadSetup KeysReadable = Unit {0}
+IsOfHeadSetup (BadKeys line why) = Unit {0}
+IsOfHeadSetup (NoKey meter) = Unit {0}
+IsOfHeadSetup NoCounter = Unit {0}
+IsOfHeadSetup CounterExists = Unit {0}
+IsOfHeadSetup CounterLocked = Unit {0}
+IsOfHeadSetup CounterFault = Unit {0}
 IsOfHeadSetup fault = IsOfOldBook fault
 
 -- of `head`
 abbrev pub IsOfHead : Fault → Type 0
 IsOfHead Full = Unit {0}
 IsOfHead Output = Unit {0}
+IsOfHead CounterSpent = Unit {0}
 IsOfHead fault = IsOfHeadSetup fault
 
 -- those that come before anything is written, whatever else may come then
@@ -113,6 +122,13 @@ ComesBeforeLines (BadRecord index) = Unit {0}
 ComesBeforeLines ForeignHead = Unit {0}
 ComesBeforeLines ForeignCapture = Unit {0}
 ComesBeforeLines (NoAddress meter) = Unit {0}
+ComesBeforeLines KeysFault = Unit {0}
+ComesBeforeLines KeysReadable = Unit {0}
+ComesBeforeLines (BadKeys line why) = Unit {0}
+ComesBeforeLines (NoKey meter) = Unit {0}
+ComesBeforeLines NoCounter = Unit {0}
+ComesBeforeLines CounterExists = Unit {0}
+ComesBeforeLines CounterLocked = Unit {0}
 ComesBeforeLines fault = ⊥
 
 -- of what comes after the first line

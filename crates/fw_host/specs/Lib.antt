@@ -9,3 +9,5 @@ pub mod Clocks
 pub mod Strangers
 pub mod Captures
 pub mod BegunCapture
+pub mod Closings
+pub mod Sealings

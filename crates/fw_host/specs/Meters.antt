@@ -1,5 +1,5 @@
 -- Public vocabulary: the command `meter`: the lines that it prints, the faults of its set-up, and the meter that it makes.
-use Rattle.std.specs.Prelude.{ℕ, List, ◌++◌, codes, decimal}
+use Rattle.std.specs.Prelude.{ℕ, ◌==◌, if◌then◌else◌, List, ◌++◌, codes, decimal}
 use Rattle.std.specs.declared.net.socket_addr.SocketAddr.{SocketAddr}
 use Rattle.std.specs.Net.Text.{socket_text}
 use Rattle.hex.specs.Hex.{encode_lower}
@@ -18,13 +18,17 @@ activated_line name =
     codes "activated " ++ (decimal name.campaign.head ++ (codes " " ++ (decimal name.campaign.serial ++ (codes " " ++ (decimal name.release
     ++ (codes " " ++ (encode_lower name.digest ++ codes "\n")))))))
 
--- the datagrams that were dropped, as strangers' and for lack of memory, and how often the socket failed
-abbrev pub dropped_line : Dropped → ℕ → List ℕ
-dropped_line dropped faults =
-    codes "dropped strangers " ++ (decimal dropped.strangers ++ (codes " unserved " ++ (decimal dropped.unserved ++ (codes " faults "
-    ++ (decimal faults ++ codes "\n")))))
+-- the end of a line: how many datagrams didn't open, if any
+abbrev pub unopened_end : ℕ → List ℕ
+unopened_end n = if n == 0 then codes "\n" else (codes " unopened " ++ (decimal n ++ codes "\n"))
 
--- the image that a new meter runs where none is given
+-- the datagrams that were dropped, as strangers' and for lack of memory, how often the socket failed, and how many datagrams didn't open
+abbrev pub dropped_line : Dropped → ℕ → ℕ → List ℕ
+dropped_line dropped faults unopened =
+    codes "dropped strangers " ++ (decimal dropped.strangers ++ (codes " unserved " ++ (decimal dropped.unserved ++ (codes " faults "
+    ++ (decimal faults ++ unopened_end unopened)))))
+
+-- the image that a new meter runs if none is given
 abbrev pub default_factory : List ℕ
 default_factory = codes "abc"
 

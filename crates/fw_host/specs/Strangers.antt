@@ -13,7 +13,7 @@ is_among addresses address = list_any (λ (other : SocketAddr). socket_eq.ghosts
 abbrev pub is_listed_at : List Listed → SocketAddr → Bool
 is_listed_at list address = list_any (λ (at : Listed). socket_eq.ghosts.eq at.address address) list
 
--- whether who has an address is a stranger to a meter that these may ask, and anybody where there are none
+-- whether who has an address is a stranger to a meter that these may ask, and anybody if there are none
 abbrev pub is_strange : List SocketAddr → SocketAddr → Bool
 is_strange heads address = not (length heads == 0 || is_among heads address)
 

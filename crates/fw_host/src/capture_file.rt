@@ -26,8 +26,8 @@ pub(crate) const HEADER_SIZE: usize = 24;
 /// The file of a daemon's capture, under the lock, with a note of the start of the process at its end, where it stands. It is made where no
 /// file is there, as FILE.new, which is named FILE once the disk has its file header; and gone on with where one is.
 ///
-/// Each record is appended by a call of its own, so a process that is killed leaves whole ones. A power cut or a full disk may leave less than a
-/// record at the end, and zeros. That is cut off, and the disk has it so before anything is appended.
+/// Each record is appended by a call of its own, so a process that is killed leaves whole ones. A power cut or a full disk may leave less
+/// than a record at the end, and zeros. That is cut off, and the disk has it so before anything is appended.
 ///
 /// # Errors
 ///
@@ -190,7 +190,7 @@ pub(crate) fn put_record<S: Sink>(
     write_record(alloc, sink, &captured).map_err(|_| Fault::CaptureFault)
 }
 
-/// The nanoseconds since the start of 1970, and 0 where the system has no time.
+/// The nanoseconds since the start of 1970, and 0 if the system has no time.
 pub(crate) fn now<C: Clock>(rt: &C) -> u64 {
     let Ok(now) = SystemTime::now(rt) else {
         return 0;

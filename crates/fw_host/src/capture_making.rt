@@ -45,11 +45,11 @@ fn begins_as(front: &[u8], form: &[u8; FRONT_SIZE]) -> bool
     front[..count] == form[..count]
 }
 
-/// Makes the file of a capture with this file header, where nothing is FILE: as FILE.new, which is named FILE once the disk has it.
+/// Makes the file of a capture with this file header, if nothing is FILE: as FILE.new, which is named FILE once the disk has it.
 ///
 /// # Errors
 ///
-/// `Exists` where something is FILE; `NotAlone` and `Foreign` where another program's file is FILE.new; `Locked` where another process has
+/// `Exists` if something is FILE; `NotAlone` and `Foreign` if another program's file is FILE.new; `Locked` if another process has
 /// it; and those of the system. What was begun is taken away then.
 pub(crate) fn new_capture<F: Folder>(folder: &mut F, header: &[u8]) -> Result<F::File, Reason>
     ensures absent { IsTrue (F.seen folder.old).honest → OnOk result ((F.seen folder.old).disk.entry Main ≡ absent) }

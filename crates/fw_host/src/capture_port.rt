@@ -14,7 +14,7 @@ use std::alloc::Global;
 use std::net::SocketAddr;
 use std::rt::Clock;
 
-/// A port with the sink of its capture, where one is asked for. A datagram is recorded before it is handled or sent, so nothing is done that the
+/// A port with the sink of its capture, if one is asked for. A datagram is recorded before it is handled or sent, so nothing is done that the
 /// capture lacks: where a record can't be put, the datagram is dropped, and the port is closed.
 ///
 /// Whether its sink fails isn't known, so it is not honest.

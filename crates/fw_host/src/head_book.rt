@@ -40,7 +40,7 @@ pub struct BookOptions<'a> {
 /// of the old file may return `Ok` though a part of it isn't on the disk. A file that is named FILE.new and is no journal is left as it is.
 ///
 /// What is cut off a book that is there, and reads as records, is kept in FILE.dropped first, and standard error is told how many records
-/// that are. Where that can't be, nothing is cut off.
+/// that are. If that can't be, nothing is cut off.
 ///
 /// # Errors
 ///
@@ -100,7 +100,7 @@ fn open<F: Files<File = File> + Eprint>(
 }
 
 /// FILE, opened. If another process put a new file in its place meanwhile, the lock of that one tells so.
-fn old_device<F: Files<File = File>>(
+pub(crate) fn old_device<F: Files<File = File>>(
     folder: &mut SystemFolder<'_, F>,
 ) -> Result<FileDevice, Because<JournalError>>
     ensures { IfErr result (λ b. IsFileRefusal b.error) }
@@ -112,7 +112,7 @@ fn old_device<F: Files<File = File>>(
     }
 }
 
-/// The fault that the refusal to open the file of a book is, with its reason. Where there is no file, there is no book.
+/// The fault that the refusal to open the file of a book is, with its reason. If there is no file, there is no book.
 fn not_opened(because: Because<JournalError>) -> Because<Fault>
     requires { IsFileRefusal because.error }
     ensures missing { because.reason ≡ Some (record { name = Main; cause = Missing }) → result.error ≡ Fault.NoBook }
@@ -167,7 +167,7 @@ fn anew_on<D: JournalDevice + Drop, K: Keeper, R: Replacer<D>>(
     }
 }
 
-/// Writes the book of a head end anew. The head end is the same, also where that is refused. The fault is about FILE, or about FILE.new,
+/// Writes the book of a head end anew. The head end is the same, also if that is refused. The fault is about FILE, or about FILE.new,
 /// where that can't be made.
 fn write_anew<D: JournalDevice, R: Replacer<D>>(
     alloc: Global,

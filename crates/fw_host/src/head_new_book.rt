@@ -27,7 +27,7 @@ use std::rt::Files;
 ///
 /// # Errors
 ///
-/// `BookExists`, also for a link to nothing, and `BookFault` where it can't be looked for, each with its reason.
+/// `BookExists`, also for a link to nothing, and `BookFault` if it can't be looked for, each with its reason.
 pub fn check_absent<F: Files<File = File>>(rt: &F, path: &str) -> Result<(), Because<Fault>>
     ensures faults { IfErr result (λ b. (b.error ≡ Fault.BookExists) ⊎ (b.error ≡ Fault.BookFault)) }
 {
@@ -75,7 +75,7 @@ pub(crate) fn make<F: Files<File = File>>(
 }
 
 /// FILE.new, begun. If another process makes it meanwhile, its lock tells so.
-fn new_device<F: Files<File = File>>(
+pub(crate) fn new_device<F: Files<File = File>>(
     folder: &mut SystemFolder<'_, F>,
 ) -> Result<FileDevice, Because<JournalError>>
     ensures { IfErr result (λ b. IsFileRefusal b.error) }

@@ -41,7 +41,7 @@ use std::alloc::{AllocError, Global};
 pub struct Opening<'a> {
     /// The serial number of the first campaign, at least 1.
     pub serial: u32,
-    /// The release of the image, and 0 where it has none.
+    /// The release of the image, and 0 if it has none.
     pub release: u32,
     /// The path of the file whose bytes are the image.
     pub image: &'a str,
@@ -51,7 +51,7 @@ pub struct Opening<'a> {
 ///
 /// # Errors
 ///
-/// `BadSetup` where the first serial number is 0, which is none, or there are not enough from it on; `OpenRefused` with `NoMeters` where the
+/// `BadSetup` if the first serial number is 0, which is none, or there are not enough from it on; `OpenRefused` with `NoMeters` if the
 /// list is empty; and `OutOfMemory`.
 pub fn parts_of(alloc: Global, serial: u32, list: &[Listed]) -> Result<Vec<Part>, Fault>
     ensures parts { IfOk result (λ parts. ArePartsOf serial (listed_meters list.now) parts.items) }
@@ -198,7 +198,8 @@ pub fn open_part<D: JournalDevice>(
     }
 }
 
-/// Opens a campaign of an opening, where the book hasn't it already, and returns the name of its image then. From `Ok` on it is on the device.
+/// Opens a campaign of an opening, where the book hasn't it already, and returns the name of its image then. From `Ok` on it is on the
+/// device.
 ///
 /// # Errors
 ///

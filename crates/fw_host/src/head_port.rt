@@ -1,45 +1,42 @@
-//! The port of the command `head`: a UDP socket with a clock, and a writer that gets the line of each row that ended.
+//! The port of the command `head`: one of datagrams with a clock, and a writer that gets the line of each row that ended.
 
-ghost use Rattle.std.specs.Prelude.{◌≡◌, ◌≤◌, ◌∷◌, [], IfOk, IfSome, IsErr, OnOk, false, length, true};
-ghost use Rattle.fw_capture.specs.View.{datagram, endpoint_of};
-ghost use Rattle.fw_host.specs.Captures.{CapturesArrival, CapturesNoted};
+ghost use Rattle.std.specs.Prelude.{◌≡◌, ◌≤◌, ◌∷◌, [], IfOk, IfSome, IsErr, OnErr, OnOk, false, length, true};
 ghost use Rattle.fw_host.specs.Heads.{ended_line};
 ghost use Rattle.fw_host.specs.Telling.{Told};
 
-use crate::capture_port::CapturePort;
+use crate::datagram_port::{ClosedBy, DatagramPort};
 use crate::head_progress::CLEARED;
 use crate::lines::Lines;
 use crate::port_clock::PortClock;
 use fw_port::{Arrival, Closed, Patience};
-use fw_recording::Sink;
 use fw_rollout::Ended;
 use std::io::Write;
 use std::net::SocketAddr;
 use std::rt::Clock;
 
-/// A UDP socket with its capture, a clock and a writer of lines. Nothing is known of what a network does, so it is not honest. But the line
-/// of each row that it is told of is written, on a terminal in place of the progress. It is closed once its clock can't be read, and its time
-/// stands still then.
+/// A port of datagrams, as a UDP socket with its capture, or a sealing one over that, with a clock and a writer of lines. Nothing is known
+/// of what a network does, so it is not honest. But the line of each row that it is told of is written, on a terminal in place of the
+/// progress. It is closed once its clock can't be read, and its time stands still then.
 #[derive(Drop)]
-pub struct UdpHeadPort<'a, 'w, C: Clock + Eprint, W: Write, V: Sink + Drop> {
+pub struct UdpHeadPort<'a, 'w, C: Clock + Eprint, W: Write, P: DatagramPort + Drop> {
     rt: &'a C,
-    port: CapturePort<'a, C, V>,
+    port: P,
     lines: &'a mut Lines<'w, W>,
     /// Whether standard error is a terminal that shows the progress in a line, which is cleared first.
     clears: bool,
     clock: PortClock,
 }
 
-impl<'a, 'w, C: Clock + Eprint, W: Write, V: Sink + Drop> UdpHeadPort<'a, 'w, C, W, V> {
-    /// The time begins now. Nothing is sent, received or written yet. Where it `clears`, the line of a terminal that standard error is gets
+impl<'a, 'w, C: Clock + Eprint, W: Write, P: DatagramPort + Drop> UdpHeadPort<'a, 'w, C, W, P> {
+    /// The time begins now. Nothing is sent, received or written yet. If it `clears`, the line of a terminal that standard error is gets
     /// cleared before each line.
     pub fn new(
         rt: &'a C,
-        port: CapturePort<'a, C, V>,
+        port: P,
         lines: &'a mut Lines<'w, W>,
         clears: bool,
-    ) -> UdpHeadPort<'a, 'w, C, W, V>
-        ensures port { result.port ≡ port.entry }
+    ) -> UdpHeadPort<'a, 'w, C, W, P>
+        ensures port { result.port ≡ port }
         ensures lines { result.lines.ghost_name ≡ lines.entry.ghost_name }
         ensures writer { result.lines.now.writer.ghost_name ≡ lines.old.writer.ghost_name }
         ensures lost { result.lines.now.lost ≡ lines.old.lost }
@@ -55,11 +52,11 @@ impl<'a, 'w, C: Clock + Eprint, W: Write, V: Sink + Drop> UdpHeadPort<'a, 'w, C,
         }
     }
 
-    /// Whether the port is closed since its capture could not be written.
-    pub fn has_failed(&self) -> bool
-        ensures { result ≡ self.now.port.recorder.failed }
+    /// Why the port below is closed, where it is.
+    pub fn closed_by(&self) -> ClosedBy
+        ensures { result ≡ P.closing self.now.port }
     {
-        self.port.has_failed()
+        self.port.closed_by()
     }
 
     /// The time of the port: what its clock read last.
@@ -71,22 +68,27 @@ impl<'a, 'w, C: Clock + Eprint, W: Write, V: Sink + Drop> UdpHeadPort<'a, 'w, C,
 
     /// How often the port below failed.
     pub(crate) fn count_of_faults(&self) -> u64 {
-        self.port.count_of_faults()
+        self.port.faults()
+    }
+
+    /// How many datagrams the port below didn't open.
+    pub(crate) fn count_of_unopened(&self) -> u64 {
+        self.port.unopened()
     }
 
     /// Receives the next datagram, and reads the clock then.
     ///
     /// # Errors
     ///
-    /// `Closed` where the port below is closed, or the clock fails. Once it failed, nothing is received.
+    /// `Closed` if the port below is closed, or the clock fails. Once it failed, nothing is received.
     pub(crate) fn receive_timed(
         &mut self,
         patience: Patience,
         buffer: &mut [u8],
     ) -> Result<Option<Arrival>, Closed>
         ensures bound { IfOk result (λ came. IfSome came (λ a. a.count ≤ length buffer.new)) }
-        ensures recorded { IfOk result (λ came. CapturesArrival V.takes self.old.port.recorder.strangers.now self.old.port.recorder.has_turns
-            self.old.port.recorder.at patience came buffer.new self.old.port.recorder.sink self.new.port.recorder.sink) }
+        ensures received { IfOk result (λ came. P.receives self.old.port patience came buffer.new self.new.port) }
+        ensures below { self.new.clock.failed ≡ false → OnErr result (P.stays_closed self.old.port self.new.port) }
         ensures lines { self.new.lines ≡ self.old.lines }
         ensures time { self.old.clock.time ≤ self.new.clock.time }
         ensures stands { self.new.clock.failed ≡ true → self.new.clock.time ≡ self.old.clock.time }
@@ -97,22 +99,20 @@ impl<'a, 'w, C: Clock + Eprint, W: Write, V: Sink + Drop> UdpHeadPort<'a, 'w, C,
         if self.clock.has_failed() {
             return Err(Closed);
         }
-        let came = self.port.receive_recorded(patience, buffer)?;
+        let came = self.port.receive_datagram(patience, buffer)?;
         self.clock.read(self.rt)?;
         Ok(came)
     }
 
     /// Sends a datagram, but none once the clock failed.
     pub(crate) fn send_timed(&mut self, to: SocketAddr, bytes: &[u8])
-        ensures recorded { self.old.clock.failed ≡ false → self.new.port.recorder.failed ≡ false
-            → CapturesNoted V.takes self.old.port.recorder.strangers.now.count self.old.port.recorder.sink self.new.port.recorder.sink
-            (datagram (endpoint_of self.old.port.recorder.at) (endpoint_of to) bytes.now) }
+        ensures sent { self.old.clock.failed ≡ false → P.sends self.old.port to bytes.now self.new.port }
         ensures lines { self.new.lines ≡ self.old.lines }
         ensures clock { self.new.clock ≡ self.old.clock }
         ensures closed { self.old.clock.failed ≡ true → self.new ≡ self.old }
     {
         if !self.clock.has_failed() {
-            self.port.send_recorded(to, bytes);
+            self.port.send_datagram(to, bytes);
         }
     }
 
@@ -128,7 +128,7 @@ impl<'a, 'w, C: Clock + Eprint, W: Write, V: Sink + Drop> UdpHeadPort<'a, 'w, C,
     {
         self.clear();
         self.lines.tell_ended(ended);
-        // Where it fails, nothing is received any more.
+        // If it fails, nothing is received any more.
         let _ = self.clock.read(self.rt);
     }
 

@@ -1,15 +1,15 @@
 //! The port of the command `head`, as a daemon calls it. What stands here has no way around its clock and its lines.
 
+use crate::datagram_port::DatagramPort;
 use crate::head_port::UdpHeadPort;
 use fw_port::{Arrival, Closed, Patience, Port};
-use fw_recording::Sink;
 use fw_rollout::{Ended, HeadPort};
 use std::io::Write;
 use std::net::SocketAddr;
 use std::rt::Clock;
 
-impl<'a, 'w, C: Clock + Eprint, W: Write, V: Sink + Drop> Port<Ended>
-    for UdpHeadPort<'a, 'w, C, W, V> {
+impl<'a, 'w, C: Clock + Eprint, W: Write, P: DatagramPort + Drop> Port<Ended>
+    for UdpHeadPort<'a, 'w, C, W, P> {
     ghost use Rattle.std.specs.Prelude.{◌≡◌, false, [], ⊤};
     ghost use Rattle.fw_host.specs.Telling.{Told, lines_of_rows};
 
@@ -36,13 +36,17 @@ impl<'a, 'w, C: Clock + Eprint, W: Write, V: Sink + Drop> Port<Ended>
         self.count_of_faults()
     }
 
+    fn unopened(&self) -> u64 {
+        self.count_of_unopened()
+    }
+
     fn send(&mut self, to: SocketAddr, bytes: &[u8]) {
         self.send_timed(to, bytes);
     }
 }
 
-impl<'a, 'w, C: Clock + Eprint, W: Write, V: Sink + Drop> HeadPort
-    for UdpHeadPort<'a, 'w, C, W, V> {
+impl<'a, 'w, C: Clock + Eprint, W: Write, P: DatagramPort + Drop> HeadPort
+    for UdpHeadPort<'a, 'w, C, W, P> {
     ghost time = { λ p. p.clock.time };
 
     /// The microseconds since the port was made, as it read them last: after what it received last, and after each line.

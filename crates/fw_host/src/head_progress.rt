@@ -45,6 +45,8 @@ struct Figures {
     /// Datagrams a second.
     rate: u64,
     faults: u64,
+    /// Datagrams that didn't open.
+    unopened: u64,
 }
 
 impl fmt::Display for Figures {
@@ -58,11 +60,15 @@ impl fmt::Display for Figures {
             resends,
             strangers,
         } = self.counts;
-        let (rate, faults) = (self.rate, self.faults);
+        let (rate, faults, unopened) = (self.rate, self.faults, self.unopened);
         write!(
             f,
             "{live} live, {done} done, {failed} failed; {rate} datagrams/s, {resends} resends, {strangers} strangers, {faults} faults"
-        )
+        )?;
+        match unopened {
+            0 => Ok(()),
+            _ => write!(f, ", {unopened} unopened"),
+        }
     }
 }
 
@@ -121,7 +127,7 @@ impl<'a, E: Eprint> HeadProgress<'a, E> {
 }
 
 impl<'a, E: Eprint> HeadWatch for HeadProgress<'a, E> {
-    fn round(&mut self, now: u64, counts: Counts, faults: u64) {
+    fn round(&mut self, now: u64, counts: Counts, faults: u64, unopened: u64) {
         let Some(every) = self.output.every() else {
             return;
         };
@@ -135,6 +141,7 @@ impl<'a, E: Eprint> HeadWatch for HeadProgress<'a, E> {
                 counts,
                 rate,
                 faults,
+                unopened,
             });
         }
         self.shown_at = Some(now);

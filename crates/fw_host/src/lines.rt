@@ -102,12 +102,12 @@ impl<'a, W: Write> Lines<'a, W> {
     }
 
     /// The line of what was dropped.
-    pub fn tell_dropped(&mut self, dropped: Dropped, faults: u64)
+    pub fn tell_dropped(&mut self, dropped: Dropped, faults: u64, unopened: u64)
         ensures writer { self.new.writer.ghost_name ≡ self.old.writer.ghost_name }
-        ensures told { Told (dropped_line dropped faults ∷ []) self.old.lost self.new.lost (W.contents self.old.writer.now)
+        ensures told { Told (dropped_line dropped faults unopened ∷ []) self.old.lost self.new.lost (W.contents self.old.writer.now)
             (W.contents self.new.writer.now) }
     {
-        let line = dropped_line(self.alloc, dropped, faults);
+        let line = dropped_line(self.alloc, dropped, faults, unopened);
         self.tell(line);
     }
 
@@ -153,7 +153,7 @@ fn write_whole<W: Write>(writer: &mut W, bytes: &[u8]) -> bool
     false
 }
 
-/// Writes some of these bytes, of which there are some, and returns how many: none where the writer was interrupted. `None` where it failed.
+/// Writes some of these bytes, of which there are some, and returns how many: none if the writer was interrupted. `None` if it failed.
 fn write_some<W: Write>(writer: &mut W, bytes: &[u8]) -> Option<usize>
     ensures bound { IfSome result (λ count. count ≤ length bytes.now) }
     ensures written { MatchOption result (Keeps (W.contents writer.old) (W.contents writer.new)) (λ count.

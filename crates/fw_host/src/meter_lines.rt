@@ -26,17 +26,24 @@ pub(crate) fn activated_line(alloc: Global, name: ImageName) -> Result<String, A
     format!(in alloc; "activated {head} {serial} {release} {digest}\n")
 }
 
-/// The line that tells how many datagrams were dropped, and how often the socket failed.
+/// The line that tells how many datagrams were dropped, how often the socket failed, and how many datagrams didn't open, if any.
 pub(crate) fn dropped_line(
     alloc: Global,
     dropped: Dropped,
     faults: u64,
+    unopened: u64,
 ) -> Result<String, AllocError>
-    ensures { IfOk result (λ text. string_bytes text ≡ dropped_line dropped faults) }
+    ensures { IfOk result (λ text. string_bytes text ≡ dropped_line dropped faults unopened) }
 {
     let Dropped {
         strangers,
         unserved,
     } = dropped;
-    format!(in alloc; "dropped strangers {strangers} unserved {unserved} faults {faults}\n")
+    if unopened == 0 {
+        format!(in alloc; "dropped strangers {strangers} unserved {unserved} faults {faults}\n")
+    } else {
+        format!(in alloc;
+            "dropped strangers {strangers} unserved {unserved} faults {faults} unopened {unopened}\n"
+        )
+    }
 }

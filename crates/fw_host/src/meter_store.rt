@@ -18,7 +18,7 @@ use std::alloc::Global;
 use std::fs::File;
 use std::rt::Files;
 
-/// The image that a new meter runs where none is given.
+/// The image that a new meter runs if none is given.
 const DEFAULT_FACTORY: &[u8] = b"abc";
 
 /// What a new meter is made with.
@@ -116,7 +116,7 @@ impl NewStore {
     }
 }
 
-/// The meter that the file holds, and `None` where no file is there and one can be made.
+/// The meter that the file holds, and `None` if no file is there and one can be made.
 ///
 /// # Errors
 ///

@@ -1,4 +1,4 @@
-//! The clock of a port. Its time stands still where the system has none.
+//! The clock of a port. Its time stands still if the system has none.
 
 ghost use Rattle.std.specs.Prelude.{◌≡◌, ◌≤◌, MatchOption, OnErr, OnOk, false, max, true};
 ghost use Rattle.fw_host.specs.Clocks.{reading};
@@ -48,7 +48,7 @@ impl PortClock {
     ///
     /// # Errors
     ///
-    /// `Closed` where the system has no time, and each time from then on.
+    /// `Closed` if the system has no time, and each time from then on.
     pub(crate) fn read<C: Clock>(&mut self, rt: &C) -> Result<(), Closed>
         ensures on { self.old.time ≤ self.new.time }
         ensures goes { OnOk result (self.new.failed ≡ false) }

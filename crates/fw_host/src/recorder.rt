@@ -13,8 +13,9 @@ use std::alloc::Global;
 use std::net::SocketAddr;
 use std::rt::Clock;
 
-/// The sink of a capture, where one is asked for. None is put after one that failed, of which a part may be there. Of a meter each turn of a
-/// verification has a note. A datagram of a stranger has no record, unless those are asked for: before the next record a note says how many came.
+/// The sink of a capture, if one is asked for. None is put after one that failed, of which a part may be there. Of a meter each turn of a
+/// verification has a note. A datagram of a stranger has no record, unless those are asked for: before the next record a note says how many
+/// came.
 #[derive(Drop)]
 pub struct Recorder<'a, C: Clock, S: Sink + Drop> {
     rt: &'a C,
@@ -64,7 +65,7 @@ impl<'a, C: Clock, S: Sink + Drop> Recorder<'a, C, S> {
         self.failed
     }
 
-    /// Puts a record into the capture, where there is one.
+    /// Puts a record into the capture, if there is one.
     fn put_one(&mut self, content: Content<'_>) -> Result<(), Closed>
         ensures put { OnOk result (Captures S.takes self.old.sink self.new.sink (told_of content.entry)) }
         ensures recorded { OnOk result (IsRecorded S.takes self.new.sink (told_of content.entry)) }
@@ -149,7 +150,7 @@ impl<'a, C: Clock, S: Sink + Drop> Recorder<'a, C, S> {
         self.put_turn(patience)
     }
 
-    /// Puts the records of what came: a datagram, and the turn that follows where nothing did, or a stranger's.
+    /// Puts the records of what came: a datagram, and the turn that follows if nothing did, or a stranger's.
     pub(crate) fn put_arrival(
         &mut self,
         patience: Patience,

@@ -37,7 +37,7 @@ impl Strangers {
     ///
     /// # Errors
     ///
-    /// `AllocError` where memory was refused.
+    /// `AllocError` if memory was refused.
     pub fn of_meter(
         alloc: Global,
         heads: &[SocketAddr],
@@ -60,7 +60,7 @@ impl Strangers {
     ///
     /// # Errors
     ///
-    /// `AllocError` where memory was refused.
+    /// `AllocError` if memory was refused.
     pub fn of_head(
         alloc: Global,
         list: &[Listed],

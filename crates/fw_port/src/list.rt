@@ -146,6 +146,10 @@ impl<'a, R: Wait, Report: Drop, L: Rule<Report>> Port<Report> for ListPort<'a, R
         0
     }
 
+    fn unopened(&self) -> u64 {
+        0
+    }
+
     fn send(&mut self, to: SocketAddr, bytes: &[u8]) {
         let bytes = copied(self.rt, self.alloc, bytes);
         push(

@@ -39,7 +39,7 @@ impl fmt::Display for Closed {
     }
 }
 
-/// Whether a receive waits for a datagram where none is there.
+/// Whether a receive waits for a datagram if none is there.
 #[derive(Clone, Copy)]
 pub enum Patience {
     /// It waits, as long as the port does.
@@ -74,14 +74,14 @@ pub trait Port<Report> {
     ghost legal: { Self → List (Act Report) → Type 0 };
 
     /// From one moment to another these reports were made, the oldest first, and this came of them. It is known of a port that isn't honest
-    /// too. Where none is made, there is nothing to be said.
+    /// too. If none is made, there is nothing to be said.
     ghost tells: { Self → List Report → Self → Type 0 } = { λ _ _ _. ⊤ };
 
     /// Receives the next datagram into the buffer, cut to its length. `None` says that none came in time.
     ///
     /// # Errors
     ///
-    /// `Closed` where nothing comes any more.
+    /// `Closed` if nothing comes any more.
     fn receive(&mut self, patience: Patience, buffer: &mut [u8]) -> Result<Option<Arrival>, Closed>
         ensures bound { IfOk result (λ came. IfSome came (λ a. a.count ≤ length buffer.new)) }
         ensures came { IsTrue (honest self.old) → IfOk result (λ r. MatchOption r (acts self.new ≡ quiet ∷ acts self.old)
@@ -93,6 +93,11 @@ pub trait Port<Report> {
 
     /// How often the port failed so far, up to 2^64 - 1: an honest one never does.
     fn faults(&self) -> u64
+        ensures { IsTrue (honest self.now) → result ≡ 0 };
+
+    /// How many datagrams came so far that weren't let through since they didn't open, up to 2^64 - 1: an honest port has none, and nor has
+    /// one whose links aren't sealed.
+    fn unopened(&self) -> u64
         ensures { IsTrue (honest self.now) → result ≡ 0 };
 
     /// Sends a datagram, which has to be legal after all that was done. A datagram that can't be sent is lost.

@@ -42,7 +42,7 @@ impl UdpPort {
     ///
     /// # Errors
     ///
-    /// `SocketError` where the system refuses it.
+    /// `SocketError` if the system refuses it.
     pub fn bind<N: Net>(net: &N, at: SocketAddr) -> Result<UdpPort, SocketError> {
         UdpPort::bind_for(net, at, WAIT_LIMIT)
     }
@@ -51,7 +51,7 @@ impl UdpPort {
     ///
     /// # Errors
     ///
-    /// `SocketError` where the system refuses it, or the time is 0.
+    /// `SocketError` if the system refuses it, or the time is 0.
     pub fn bind_for<N: Net>(net: &N, at: SocketAddr, limit: u64) -> Result<UdpPort, SocketError> {
         let socket = UdpSocket::bind(net, at)?;
         socket.set_read_timeout(Some(Duration::from_millis(limit)))?;
@@ -68,7 +68,7 @@ impl UdpPort {
     ///
     /// # Errors
     ///
-    /// `SocketError` where the system refuses it.
+    /// `SocketError` if the system refuses it.
     pub fn bind_polling<N: Net>(net: &N, at: SocketAddr) -> Result<UdpPort, SocketError> {
         let socket = UdpSocket::bind(net, at)?;
         socket.set_nonblocking(true)?;
@@ -85,7 +85,7 @@ impl UdpPort {
     ///
     /// # Errors
     ///
-    /// `SocketError` where the system doesn't say it.
+    /// `SocketError` if the system doesn't say it.
     pub fn address(&self) -> Result<SocketAddr, SocketError> {
         Ok(self.socket.local_addr()?)
     }
@@ -148,6 +148,10 @@ impl Port<NoReport> for UdpPort {
     /// How often the socket failed, at a receive or a send.
     fn faults(&self) -> u64 {
         self.faults
+    }
+
+    fn unopened(&self) -> u64 {
+        0
     }
 
     fn send(&mut self, to: SocketAddr, bytes: &[u8]) {

@@ -127,7 +127,7 @@ pub out_settled : (now : ℕ) (old new : Schedule) → IsSchedule new → Settle
 out_settled now old new i st =
     i.counts_out ∙ sums_agree now (links_of old) (links_of new) (λ place. agrees now (slice_get (links_of old) place) (slice_get (links_of new) place) (st.each place) (st.all place))
 
--- where the queue is empty, or too much is out, no meter may be asked, or too much is out at this time
+-- if the queue is empty, or too much is out, no meter may be asked, or too much is out at this time
 pub none_asked : (now : ℕ) (old new : Schedule) → IsSchedule new → Settles now old new → new.timing ≡ old.timing → (new.ready.items ≡ []) ⊎ ¬ HasRoom new.out new.timing.flight
     → ((place : ℕ) → ¬ ((link : Link) × (slice_get (links_of old) place ≡ Some link) × IsReadyBy now link)) ⊎ ¬ HasRoom (sum_by (λ (l : Link). out_by now l) (links_of old)) old.timing.flight
 none_asked now old new i st timing either = ⊎_elim

@@ -189,7 +189,7 @@ popped place old new s first off same rest =
       queue = left;
     })
 
--- where the queue is empty, no link may be ticked
+-- if the queue is empty, no link may be ticked
 none_there : (o : Option Link) (link : Link) → Queues o 0 → o ≡ Some link → ¬ IsReady link
 none_there None link h is ready = none-some link is
 none_there (Some it) link h is ready =

@@ -137,7 +137,7 @@ pub record IsLed {D : Type 0} (honest : D → Bool) (contents : D → List ℕ) 
   pub unsaved : leader.unsaved ≡ ended_of daemon
   pub noted : All (IsNotedIn leader.head.book) leader.unsaved
   pub schedule : IsSchedule daemon.schedule
-  -- a link is live exactly where its meter has a live row
+  -- a link is live exactly if its meter has a live row
   pub lives : lives_of daemon.schedule ≡ live_of leader.head leader.meters
 
 -- a head end that begins to lead these meters

@@ -71,7 +71,7 @@ pub record HearsMeter (old : Leader) (from : SocketAddr) (datagram : List ℕ) (
   pub takes : HeadHears old.head meter datagram heard new.head
   pub others : new ≡ record old { head = new.head; unsaved = old.unsaved ++ ended_by heard }
 
--- there is no memory for it, which is wanted only where the meter has a live row
+-- there is no memory for it, which is wanted only if the meter has a live row
 pub record HearsNot (old : Leader) (from : SocketAddr) (datagram : List ℕ) (new : Leader) : Type 0 where
   pub meter : ℕ
   pub listed : IsListed old meter from

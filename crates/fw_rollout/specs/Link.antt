@@ -80,7 +80,7 @@ abbrev pub IsSent : ℕ → ℕ → Link → Link → Type 0
 IsSent now count old new =
     new ≡ record old { turn = turns.Awaited (after now old.wait); out = count; sent_at = now; is_heard = false }
 
--- how many of the datagrams that are out an answer leaves no more: all where no ask is outstanding
+-- how many of the datagrams that are out an answer leaves no more: all if no ask is outstanding
 abbrev pub answered_of : Answer → ℕ → ℕ
 answered_of answers.Partial out = min out 1
 answered_of answers.Last out = out

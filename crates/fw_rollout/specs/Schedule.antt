@@ -83,7 +83,7 @@ CountsResend place now old new =
 abbrev pub times : ℕ → List ℕ → ℕ
 times place places = count_by (λ (other : ℕ). place == other) places
 
--- how often a link stands in the queue: once where it may be ticked, and not where it waits. One that ended may be left there.
+-- how often a link stands in the queue: once if it may be ticked, and not where it waits. One that ended may be left there.
 abbrev pub QueuesTurn : Turn → ℕ → Type 0
 QueuesTurn turns.Over n = n ≤ 1
 QueuesTurn turns.Ready n = n ≡ 1

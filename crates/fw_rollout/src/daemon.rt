@@ -107,7 +107,7 @@ pub struct Counts {
     pub sent: u64,
     /// Those that came from meters of the list.
     pub received: u64,
-    /// How often a row was ticked again since no answer came.
+    /// How often a row was ticked again since no answer came (retries, each a retransmission).
     pub resends: u64,
     /// The datagrams that came from other addresses.
     pub strangers: u64,
@@ -150,7 +150,7 @@ pub struct HeadDaemon<D: JournalDevice + Drop> {
     counts: Counts,
 }
 
-// Written out: where a daemon is let go, that is one call, and none of its parts is looked into.
+// Written out, so that letting go of it is one call in a proof. A derived `Drop` is unfolded there field by field, which takes minutes.
 impl<D: JournalDevice + Drop> Drop for HeadDaemon<D> {
     fn drop(self) {
         let HeadDaemon {
@@ -236,7 +236,7 @@ impl<D: JournalDevice + Drop> HeadDaemon<D> {
         ensures resends { (leader : Leader) → IsLed D.honest D.contents D.may_leave self.old leader
             → OnOk result (IsMore (counts_of self.old).resends (resent_at now self.old) (counts_of self.new).resends) }
 
-        // Nothing is sent only where no meter may be asked at this time, or too much is out.
+        // Nothing is sent only if no meter may be asked at this time, or too much is out.
         ensures none { (leader : Leader) → IsLed D.honest D.contents D.may_leave self.old leader
             → IfOk result (λ r. IfNone r (((place : ℕ) → ¬ IsDueBy now self.old place) ⊎ ¬ HasRoom (out_at now self.old) (flight_of self.old))) }
         ensures queue { IfOk result (λ r. IfNone r ((queue_of self.new ≡ []) ⊎ ¬ HasRoom (out_of self.new) (flight_of self.new))) }
@@ -245,7 +245,7 @@ impl<D: JournalDevice + Drop> HeadDaemon<D> {
         ensures queued { (leader : Leader) → IsLed D.honest D.contents D.may_leave self.old leader
             → OnOk result ((place : ℕ) → IsDueNow self.new place → times place (queue_of self.new) ≡ 1) }
 
-        // Memory is wanted only where a row is live.
+        // Memory is wanted only if a row is live.
         ensures wanted { (leader : Leader) → IsLed D.honest D.contents D.may_leave self.old leader → OnErr result (¬ IsOver leader) }
         ensures memory { IfErr result (λ stop. stop ≡ Stop.OutOfMemory) }
     {
@@ -481,7 +481,7 @@ fn place_of(schedule: &Schedule, address: SocketAddr) -> Option<(usize, MeterId)
 ///
 /// # Errors
 ///
-/// `AllocError` where memory was refused.
+/// `AllocError` if memory was refused.
 fn make_room(ended: &mut Vec<Ended>, has_row: bool) -> Result<(), AllocError>
     ensures items { ended.new.items ≡ ended.old.items }
     ensures row { OnErr result (IsTrue has_row) }

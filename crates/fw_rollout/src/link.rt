@@ -186,7 +186,7 @@ impl Link {
         };
     }
 
-    /// The row took an answer. Where an ask of it is outstanding still, the others are waited for. Where the meter isn't ready, it is asked
+    /// The row took an answer. If an ask of it is outstanding still, the others are waited for. If the meter isn't ready, it is asked
     /// again after a pause. It returns how many datagrams are out no more.
     pub(crate) fn answered(&mut self, now: u64, resend: u64, answer: Answer) -> u64
         ensures { IsAnswered now resend answer self.old result self.new }
@@ -201,7 +201,7 @@ impl Link {
         answered
     }
 
-    /// The time until which was waited is over. Where nothing at all came, it is waited for longer, and a quarter longer at the next tick.
+    /// The time until which was waited is over. If nothing at all came, it is waited for longer, and a quarter longer at the next tick.
     /// It returns how many datagrams are out no more.
     pub(crate) fn given_up(&mut self, now: u64) -> u64
         ensures { IsGivenUp now self.old result self.new }

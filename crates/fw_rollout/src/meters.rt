@@ -45,7 +45,7 @@ impl MeterList {
     ///
     /// # Errors
     ///
-    /// `AllocError` where memory was refused. The list is as it was then.
+    /// `AllocError` if memory was refused. The list is as it was then.
     pub fn add(&mut self, at: Listed) -> Result<bool, AllocError>
         ensures added { IfOk result (λ added. MatchBool added (self.new ≡ self.old ++ at ∷ [])
             ((self.new ≡ self.old) × ¬ IsList (self.old ++ at ∷ []))) }

@@ -99,7 +99,7 @@ impl Schedule {
     ///
     /// # Errors
     ///
-    /// `AllocError` where memory was refused. What is left then is unspecified.
+    /// `AllocError` if memory was refused. What is left then is unspecified.
     pub(crate) fn add(&mut self, at: Listed, is_live: bool) -> Result<(), AllocError>
         requires { ¬ HasAddress (links_of self.old) at.address }
         ensures added { OnOk result (Adds at is_live self.old self.new) }
@@ -158,7 +158,7 @@ impl Schedule {
     ///
     /// # Errors
     ///
-    /// `AllocError` where memory was refused, and only where a link is live. What is left then is unspecified.
+    /// `AllocError` if memory was refused, and only if a link is live. What is left then is unspecified.
     pub(crate) fn next(&mut self, now: u64) -> Result<Option<usize>, AllocError>
         ensures due { IfOk result (λ r. IfSome r (IsDueAt self.new)) }
         ensures first { IfOk result (λ r. IfSome r (IsFirst self.new)) }
@@ -264,7 +264,7 @@ impl Schedule {
     ///
     /// # Errors
     ///
-    /// `AllocError` where memory was refused. What is left then is unspecified.
+    /// `AllocError` if memory was refused. What is left then is unspecified.
     pub(crate) fn sent(&mut self, place: usize, now: u64, count: u64) -> Result<(), AllocError>
         ensures sent { OnOk result (Sends place now count self.old self.new) }
         ensures timing { OnOk result (self.new.timing ≡ self.old.timing) }
@@ -289,7 +289,7 @@ impl Schedule {
     ///
     /// # Errors
     ///
-    /// `AllocError` where memory was refused. What is left then is unspecified.
+    /// `AllocError` if memory was refused. What is left then is unspecified.
     pub(crate) fn answered(
         &mut self,
         place: usize,

@@ -22,16 +22,17 @@ const MAX_TICKS: usize = 64;
 
 /// What looks at a head end while it leads.
 pub trait HeadWatch {
-    /// It is called after each round, with the time in microseconds, how far the head end is, and how often the port failed.
-    fn round(&mut self, now: u64, counts: Counts, faults: u64);
+    /// It is called after each round, with the time in microseconds, how far the head end is, how often the port failed, and
+    /// how many datagrams it didn't open.
+    fn round(&mut self, now: u64, counts: Counts, faults: u64, unopened: u64);
 }
 
-/// One round: what is due is sent, of [`MAX_TICKS`] rows at most, a datagram is received and heard, and the rows that ended are put on the device
-/// and reported, where it is time. Where nothing else is due, it is waited for the datagram.
+/// One round: what is due is sent, of [`MAX_TICKS`] rows at most, a datagram is received and heard, and the rows that ended are put on the
+/// device and reported, where it is time. If nothing else is due, it is waited for the datagram.
 ///
 /// # Errors
 ///
-/// `Closed` where the port is closed; `Full`, `BookFault` or `OutOfMemory` of the head end. Of a row that isn't on the device nothing is
+/// `Closed` if the port is closed; `Full`, `BookFault` or `OutOfMemory` of the head end. Of a row that isn't on the device nothing is
 /// reported.
 pub fn step_head<P: HeadPort, D: JournalDevice + Drop>(
     port: &mut P,
@@ -160,7 +161,7 @@ fn tell_all<P: HeadPort>(port: &mut P, saved: &[Ended])
     }
 }
 
-/// Leads the rows to their ends. It returns `Ok` once none is live and all that ended is on the device, and never where it stays.
+/// Leads the rows to their ends. It returns `Ok` once none is live and all that ended is on the device, and never if it stays.
 ///
 /// # Errors
 ///
@@ -175,7 +176,7 @@ pub fn serve_head<R: Wait, P: HeadPort, D: JournalDevice + Drop, W: HeadWatch>(
     requires begins { MayLeadOver P.Port D.JournalDevice port.old daemon.old }
     ensures leads { LeadsOver P.Port D.JournalDevice port.old daemon.old result port.new daemon.new }
 
-    // It returns by itself only once no row is live and all that ended is on the device, and never where it stays.
+    // It returns by itself only once no row is live and all that ended is on the device, and never if it stays.
     ensures over { (now : Leader) → IsLed D.honest D.contents D.may_leave daemon.new now → OnOk result (IsOver now) }
     ensures stays { OnOk result (stays ≡ false) }
 
@@ -189,7 +190,7 @@ pub fn serve_head<R: Wait, P: HeadPort, D: JournalDevice + Drop, W: HeadWatch>(
             return Ok(());
         }
         step_with(port, daemon, &mut now, &mut buffer)?;
-        watch.round(now, daemon.counts(), port.faults());
+        watch.round(now, daemon.counts(), port.faults(), port.unopened());
     }
     unreachable!()
 }

@@ -1,4 +1,5 @@
-//! How long an answer is waited for. All times are in microseconds.
+//! How long an answer is waited for: the timeout of a request, after which it is sent again (a retry), and the backoff from one retry to the
+//! next. All times are in microseconds.
 
 ghost use Rattle.std.specs.Prelude.{◌≡◌, ◌↔◌, IsTrue};
 ghost use Rattle.fw_rollout.specs.Timing.{HasRoom, lengthened, longer, wait_after};
@@ -20,7 +21,7 @@ pub const MAX_TICK: u64 = 15;
 pub struct Timing {
     /// How long the first answer of a meter is waited for, in microseconds. No later wait is shorter.
     pub resend: u64,
-    /// How many datagrams are out at once: sent, and neither answered nor given up. One tick is always let out.
+    /// How many datagrams are out at once (in flight): sent, and neither answered nor given up. One tick is always let out.
     pub flight: u64,
 }
 
@@ -31,8 +32,8 @@ pub(crate) fn wait_after(resend: u64, trip: u64) -> u64
     trip.saturating_mul(4).max(resend).min(LONGEST_WAIT)
 }
 
-/// How long an answer is waited for after a silence of this time: a quarter longer. Where a fifth is lost in each direction, of many meters
-/// some are silent seven times in a row, and twice as long each time would be the longest wait then.
+/// How long an answer is waited for after a silence of this time (backoff): a quarter longer. If a fifth is lost in each direction, of many
+/// meters some are silent seven times in a row, and twice as long each time would be the longest wait then.
 pub(crate) fn lengthened(wait: u64) -> u64
     ensures { result ≡ lengthened wait }
 {

@@ -16,6 +16,10 @@ use Rattle.fw_sealport.specs.declared.unsealed.Unsealed.TheVariants as unsent
 abbrev pub one_more : ℕ → ℕ
 one_more n = min (n + 1) (2 ^ 64 - 1)
 
+-- how many came and weren't let through, but for want of memory, up to the greatest number that is counted
+abbrev pub refused : Dropped → ℕ
+refused d = min (min (d.strangers + d.unopened) (2 ^ 64 - 1) + d.repeated) (2 ^ 64 - 1)
+
 -- the counts after a datagram that came wasn't let through
 abbrev pub unopened : Unopened → Dropped → Dropped
 unopened Stranger d = record d { strangers = one_more d.strangers }
@@ -46,7 +50,7 @@ wrapping_refusal wrapping.Length = unsent.NotPlain
 wrapping_refusal wrapping.TooLong = unsent.NotPlain
 wrapping_refusal wrapping.OutOfMemory = unsent.OutOfMemory
 
--- what holds where an APDU has no sealing, and nothing where memory was refused
+-- what holds where an APDU has no sealing, and nothing if memory was refused
 abbrev pub IfUnsealed : Unsealed → Type 0 → Type 0
 IfUnsealed unsent.Stranger A = ⊥
 IfUnsealed unsent.NotPlain A = A

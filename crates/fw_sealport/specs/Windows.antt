@@ -5,7 +5,7 @@ use Rattle.fw_sealport.specs.declared.window.Order.{Order}
 use Rattle.fw_sealport.specs.declared.window.Order.TheVariants.{Loose, Strict}
 use Rattle.fw_sealport.specs.declared.window.Window.{Window}
 
--- by less than how many a counter may be overtaken; by none where each has to be greater than all before it
+-- by less than how many a counter may be overtaken; by none if each has to be greater than all before it
 abbrev pub width_of : Order → ℕ
 width_of Loose = 64
 width_of Strict = 1

@@ -1,12 +1,12 @@
 //! Why nothing is let through of a datagram that came, and how many datagrams were dropped.
 
 ghost use Rattle.std.specs.Prelude.{◌≡◌};
-ghost use Rattle.fw_sealport.specs.Counts.{one_more, opening_error, unopened, unsealed};
+ghost use Rattle.fw_sealport.specs.Counts.{one_more, opening_error, refused, unopened, unsealed};
 
 use fw_seal::OpenError;
 use std::alloc::AllocError;
 
-/// Why nothing is let through of a datagram that came. Where several would apply, the first of them comes, or `OutOfMemory` in place of
+/// Why nothing is let through of a datagram that came. If several would apply, the first of them comes, or `OutOfMemory` in place of
 /// `NotSealed` or `Repeated`.
 #[derive(Clone, Copy, Debug)]
 pub enum Unopened {
@@ -68,6 +68,14 @@ impl Dropped {
             unserved: 0,
             unsealed: 0,
         }
+    }
+
+    /// How many came and weren't let through for another reason than memory, up to 2^64 - 1.
+    pub(crate) fn refused(&self) -> u64
+        ensures { result ≡ refused self.now }
+    {
+        let unlinked = self.strangers.saturating_add(self.unopened);
+        unlinked.saturating_add(self.repeated)
     }
 
     /// Counts a datagram that came.

@@ -13,10 +13,16 @@ use std::collections::HashMap;
 use std::net::SocketAddr;
 
 /// The links of a port, each with the address of its other end. Nobody else is heard, and nothing is sent to anybody else.
-#[derive(Drop)]
 pub struct Links {
     peers: HashMap<SocketAddr, Peer>,
     order: Order,
+}
+
+// Written out, so that letting go of it is one call in a proof. A derived `Drop` is unfolded there field by field, which takes minutes.
+impl Drop for Links {
+    fn drop(self) {
+        let Links { peers: _, order: _ } = self;
+    }
 }
 
 impl Links {
@@ -35,7 +41,7 @@ impl Links {
     ///
     /// # Errors
     ///
-    /// `AllocError` where memory was refused. The links are as before then.
+    /// `AllocError` if memory was refused. The links are as before then.
     pub fn add(&mut self, at: SocketAddr, link: Link) -> Result<(), AllocError>
         ensures added { OnOk result (Adds self.old at link self.new) }
         ensures same { OnErr result (SamePeers self.old self.new) }

@@ -2,6 +2,7 @@
 
 ghost use Rattle.std.specs.Prelude.{◌≡◌, ◌≤◌, IfNone, IfOk, IfSome, IsErr, IsSome, OnErr, None, length, take};
 ghost use Rattle.fw_sealport.specs.Calls.{BringsNothing, DropsFrom, LetsArrive, Sends, StaysClosed};
+ghost use Rattle.fw_sealport.specs.Counts.{refused};
 ghost use Rattle.fw_sealport.specs.Peers.{LetsThroughFrom};
 
 use crate::dropped::Dropped;
@@ -14,19 +15,31 @@ use fw_port::{Arrival, Closed, Patience, Port};
 use std::alloc::Global;
 use std::net::SocketAddr;
 
-/// A port whose links are sealed, over the one of its datagrams. What comes is opened under the link of the address that it shows, and what is
-/// sent is sealed under that of the address that it goes to, with a counter that is reserved on the device before and used once. What doesn't
-/// open is dropped, as if nothing had come, and what has no link or no sealing isn't sent. Where no counter is given any more, the port is
-/// closed.
+/// A port whose links are sealed, over the one of its datagrams. What comes is opened under the link of the address that it shows, and what
+/// is sent is sealed under that of the address that it goes to, with a counter that is reserved on the device before and used once. What
+/// doesn't open is dropped, as if nothing had come, and what has no link or no sealing isn't sent. If no counter is given any more, the
+/// port is closed.
 ///
 /// What the port below does isn't known here, so it is not honest.
-#[derive(Drop)]
 pub struct SealedPort<P: WirePort + Drop, D: JournalDevice + Drop> {
     alloc: Global,
     port: P,
     links: Links,
     sealer: Sealer<D>,
     dropped: Dropped,
+}
+
+// Written out, so that letting go of it is one call in a proof. A derived `Drop` is unfolded there field by field, which takes minutes.
+impl<P: WirePort + Drop, D: JournalDevice + Drop> Drop for SealedPort<P, D> {
+    fn drop(self) {
+        let SealedPort {
+            alloc: _,
+            port: _,
+            links: _,
+            sealer: _,
+            dropped: _,
+        } = self;
+    }
 }
 
 impl<P: WirePort + Drop, D: JournalDevice + Drop> SealedPort<P, D> {
@@ -47,7 +60,7 @@ impl<P: WirePort + Drop, D: JournalDevice + Drop> SealedPort<P, D> {
         }
     }
 
-    /// Why the port is closed, where no counter is given any more.
+    /// Why the port is closed, if no counter is given any more.
     pub fn fault(&self) -> Option<CounterError>
         ensures { result ≡ self.now.sealer.fault }
     {
@@ -73,11 +86,18 @@ impl<P: WirePort + Drop, D: JournalDevice + Drop> SealedPort<P, D> {
         self.port.faults()
     }
 
-    /// Receives the next datagram, and opens it. Where it doesn't open, nothing came.
+    /// How many datagrams came and weren't let through: of strangers, such as don't open, and such as came before.
+    pub(crate) fn count_of_unopened(&self) -> u64
+        ensures { result ≡ refused self.now.dropped }
+    {
+        self.dropped.refused()
+    }
+
+    /// Receives the next datagram, and opens it. If it doesn't open, nothing came.
     ///
     /// # Errors
     ///
-    /// `Closed` where the port below is closed, or no counter is given any more. Nothing is received then.
+    /// `Closed` if the port below is closed, or no counter is given any more. Nothing is received then.
     pub fn receive_opened(
         &mut self,
         patience: Patience,

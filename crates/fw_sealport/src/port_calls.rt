@@ -27,6 +27,10 @@ impl<P: WirePort + Drop, D: JournalDevice + Drop> Port<NoReport> for SealedPort<
         self.count_of_faults()
     }
 
+    fn unopened(&self) -> u64 {
+        self.count_of_unopened()
+    }
+
     fn send(&mut self, to: SocketAddr, bytes: &[u8]) {
         self.send_sealed(to, bytes);
     }

@@ -13,7 +13,8 @@ use fw_journal::JournalDevice;
 use fw_seal::Link;
 use std::alloc::Global;
 
-/// What an end seals with: one series of counters for all of its links, each of which is reserved on a device before it is used, and used once.
+/// What an end seals with: one series of counters for all of its links, each of which is reserved on a device before it is used, and used
+/// once.
 #[derive(Drop)]
 pub(crate) struct Sealer<D: JournalDevice + Drop> {
     counters: KeptCounters<D>,
@@ -43,7 +44,7 @@ impl<D: JournalDevice + Drop> Sealer<D> {
     ///
     /// # Errors
     ///
-    /// Those of [`Unsealed`], but for `Stranger`. A counter may be used all the same. Where none was given, the sealer has that fault from
+    /// Those of [`Unsealed`], but for `Stranger`. A counter may be used all the same. If none was given, the sealer has that fault from
     /// then on, unless it was for memory.
     pub(crate) fn seal(
         &mut self,

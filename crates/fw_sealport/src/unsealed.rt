@@ -8,7 +8,7 @@ use fw_counter::CounterError;
 use fw_seal::SealError;
 use fw_wrapper::WrapError;
 
-/// Why a datagram isn't sent. Where several would apply, `Stranger` comes first, and any of the others.
+/// Why a datagram isn't sent. If several would apply, `Stranger` comes first, and any of the others.
 #[derive(Clone, Copy, Debug)]
 pub enum Unsealed {
     /// There is no link with the address that it goes to.

@@ -28,9 +28,9 @@ impl Order {
 /// The counters that were taken from an end, as far as one may still be new.
 #[derive(Drop)]
 pub(crate) struct Window {
-    /// The one after the greatest that was taken, and 0 where none was.
+    /// The one after the greatest that was taken, and 0 if none was.
     next: u64,
-    /// Bit N is 1 where the one was taken that is N below the greatest.
+    /// Bit N is 1 if the one was taken that is N below the greatest.
     bits: u64,
 }
 

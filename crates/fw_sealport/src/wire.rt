@@ -22,7 +22,7 @@ const HEADER_SIZE: usize = 8;
 ///
 /// # Errors
 ///
-/// `NotSealed` where they carry none. `OutOfMemory` only where they have the form of one.
+/// `NotSealed` if they carry none. `OutOfMemory` only if they have the form of one.
 pub(crate) fn open_wire(link: &Link, alloc: Global, wire: &[u8]) -> Result<Opened, OpenError>
     ensures opens { IfOk result (λ o. Opens link.now.keys link.now.other o.counter o.apdu.items wire.now) }
     ensures short { IfOk result (λ o. length o.apdu.items ≤ max_apdu) }
@@ -64,7 +64,7 @@ pub(crate) fn plain_apdu(datagram: &[u8]) -> Option<&[u8]>
 ///
 /// # Errors
 ///
-/// `NotPlain` where it has none, whatever the counter, and otherwise `OutOfMemory` alone.
+/// `NotPlain` if it has none, whatever the counter, and otherwise `OutOfMemory` alone.
 pub(crate) fn seal_apdu(
     link: &Link,
     alloc: Global,

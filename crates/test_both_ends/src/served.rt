@@ -42,7 +42,13 @@ struct Seen {
 }
 
 impl Watch for Seen {
-    fn round(&mut self, _activated: Option<ImageName>, dropped: Dropped, faults: u64) {
+    fn round(
+        &mut self,
+        _activated: Option<ImageName>,
+        dropped: Dropped,
+        faults: u64,
+        _unopened: u64,
+    ) {
         self.rounds = self.rounds.saturating_add(1);
         self.last = Some((dropped, faults));
     }

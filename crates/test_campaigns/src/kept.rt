@@ -70,9 +70,9 @@ fn opened_text(
     )
 }
 
-/// What a meter answers, behind the invoke byte of the ask: that its blocks have four bytes, or none, that transfer is enabled, that a method
-/// is done or refused, that no block is missing, that image `abc` of campaign (7, 1), with release 5, or of campaign (7, 2), without, is to be
-/// activated, and that it runs the first of these.
+/// What a meter answers, behind the invoke byte of the ask: that its blocks have four bytes, or none, that transfer is enabled, that a
+/// method is done or refused, that no block is missing, that image `abc` of campaign (7, 1), with release 5, or of campaign (7, 2),
+/// without, is to be activated, and that it runs the first of these.
 const ANSWERS: &str = "
     four = 000600000004
     none = 000600000000
@@ -100,7 +100,7 @@ fn heard_text(
     Ok(format!(in alloc; "{news:?}")?)
 }
 
-/// The datagram of an answer to the first of these asks, or to one that wasn't made, where there is none.
+/// The datagram of an answer to the first of these asks, or to one that wasn't made, if there is none.
 fn answer_to(alloc: Global, asked: &[Vec<u8>], answer: &str) -> Result<Vec<u8>, Fail> {
     let (mut kind, mut id) = (0xc0, 0xc0);
     if let Some(datagram) = asked.first() {
@@ -227,8 +227,8 @@ const KEPT: &str = "
     compact            => done
 ";
 
-/// `CALLS TORN CALL`: what comes of this call, where meters 2 and 1 of campaign 1 were marked and wait, and the device fails after so many calls,
-/// the last one torn or not; what comes of a commit after it; the book in memory; and the one that is read.
+/// `CALLS TORN CALL`: what comes of this call, where meters 2 and 1 of campaign 1 were marked and wait, and the device fails after so many
+/// calls, the last one torn or not; what comes of a commit after it; the book in memory; and the one that is read.
 #[derive(Clone, Copy)]
 struct Cuts;
 

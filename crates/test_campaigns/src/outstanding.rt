@@ -123,7 +123,7 @@ const OUT_OF_ORDER: &str = "
     hear 0001000100010009c401c1000600000400 => Number(1024)
 ";
 
-/// An ask can't pass one that is outstanding, also where others aren't.
+/// An ask can't pass one that is outstanding, also if others aren't.
 const ONE_LEFT: &str = "
     ask verify => AllBusy
     hear 000100010001002fc401c0000929010000000700000001ba7816bf8f01cfea414140de5dae2223b00361a396177a9cb410ff61f20015ad => active 1 010000000700000001ba7816bf8f01cfea414140de5dae2223b00361a396177a9cb410ff61f20015ad

@@ -169,6 +169,10 @@ impl Port<Ended> for Quiet {
         0
     }
 
+    fn unopened(&self) -> u64 {
+        0
+    }
+
     fn send(&mut self, _to: SocketAddr, _bytes: &[u8]) {
         self.sent = self.sent.saturating_add(1);
     }
@@ -237,7 +241,7 @@ struct Seen {
 }
 
 impl HeadWatch for Seen {
-    fn round(&mut self, _now: u64, counts: Counts, faults: u64) {
+    fn round(&mut self, _now: u64, counts: Counts, faults: u64, _unopened: u64) {
         self.rounds = self.rounds.saturating_add(1);
         self.last = (counts.done, counts.failed, faults);
     }

@@ -53,6 +53,10 @@ impl Port<NoReport> for Wire {
         0
     }
 
+    fn unopened(&self) -> u64 {
+        0
+    }
+
     fn send(&mut self, to: SocketAddr, bytes: &[u8]) {
         if let Ok(bytes) = Vec::from_slice(self.alloc, bytes) {
             let _ = self.sent.push(Datagram { address: to, bytes });

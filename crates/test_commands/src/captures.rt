@@ -1,4 +1,5 @@
-//! What a port with a capture records, over UDP on this machine: what comes, what is sent, a turn of a meter, and strangers. `dissect` tells it.
+//! What a port with a capture records, over UDP on this machine: what comes, what is sent, a turn of a meter, and strangers. `dissect`
+//! tells it.
 
 use fw_dissect::dissect;
 use fw_host::{CapturePort, Strangers};
@@ -97,7 +98,7 @@ fn told(rt: &HostRuntime, alloc: Global, what: &str) -> Result<String, Fail> {
     };
     other.send_to(&hex::decode(alloc, GET)?, ends.port)?;
     let capture = capture(rt, alloc, &mut port, ends, what)?;
-    let text = dissect(alloc, &capture)?.text;
+    let text = dissect(alloc, &[], &capture)?.text;
     let here = format!(in alloc; "{}", ends.port)?;
     let there = format!(in alloc; "{}", ends.other)?;
     let text = text.as_str().replace(alloc, here.as_str(), "here")?;
@@ -107,7 +108,7 @@ fn told(rt: &HostRuntime, alloc: Global, what: &str) -> Result<String, Fail> {
 }
 
 /// What a port is, who asks or answers it, and whether it waits: what its capture tells of a datagram, of one that is sent, and of nothing
-/// that comes, of which a meter that doesn't wait takes a turn. Where a stranger's datagram isn't recorded, it is counted.
+/// that comes, of which a meter that doesn't wait takes a turn. If a stranger's datagram isn't recorded, it is counted.
 const PORTS: &str = "
     meter any waits      => 0 there -> here  get block size; 1 here -> there  get 64; turn
     meter known waits    => 0 there -> here  get block size; 1 here -> there  get 64; turn

@@ -9,6 +9,7 @@ use fw_cli::{
     run_trace,
 };
 use fw_faults::Fault;
+use fw_keys::BadLine;
 use fw_names::{CampaignId, HeadId};
 use fw_report::{ReportForm, Style};
 use std::alloc::{AllocError, Global};
@@ -50,14 +51,15 @@ pub(crate) fn each<T: Threads + Wait + Net + Sync>(
 
 /// What a row `END ROOM COMMAND | INPUT` tells:
 ///
-/// - how the input ends: it is `over`, it `breaks` or it is `endless`; where it is `interrupted`, which comes a million times first, it is over
-///   then, and how often it was read is told after all else
+/// - how the input ends: it is `over`, it `breaks` or it is `endless`; where it is `interrupted`, which comes a million times first, it is
+///   over then, and how often it was read is told after all else
 /// - for how many bytes the output has room
 /// - the command: `answer`, `name RELEASE`, `trace`, `replay`, `replay ROUNDS FATES`, `replay-captured ROOM`, whose capture has
 ///   room for so many bytes, `rehearse ROUNDS WORKERS FATES`, `live ROUNDS WORKERS` or `live ROUNDS WORKERS trace`
 /// - the input, in which a slash stands for each line end, or its name
 ///
-/// What is written is told in that form, and after it the fault, or that an event was refused. The terminal, if there is one, shows the progress.
+/// What is written is told in that form, and after it the fault, or that an event was refused. The terminal, if there is one, shows the
+/// progress.
 pub(crate) fn told<T: Threads + Wait + Net + Sync>(
     rt: &T,
     alloc: Global,
@@ -105,12 +107,18 @@ fn run<T: Threads + Wait + Net + Sync, R: Read, W: Write>(
             let options = name_options(words)?;
             Ok(whole(run_name(alloc, reader, writer, &options)))
         }
-        "trace" => Ok(whole(run_trace(alloc, reader, writer))),
+        "trace" => Ok(whole(trace(alloc, reader, writer))),
         "replay" => replay(alloc, terminal, words, reader, writer),
         "replay-captured" => replay_captured(alloc, terminal, words, reader, writer),
         "rehearse" => rehearse(rt, alloc, terminal, words, reader, writer),
         _ => live(rt, alloc, terminal, words, reader, writer),
     }
+}
+
+/// `trace` without keys.
+fn trace<R: Read, W: Write>(alloc: Global, reader: &mut R, writer: &mut W) -> Result<(), Fault> {
+    let plain: &mut Option<&mut [u8]> = &mut None;
+    run_trace(alloc, &[], reader, writer, plain)
 }
 
 fn replay<R: Read, W: Write>(
@@ -306,7 +314,7 @@ four  = head 7 width 4/meter 1 block 2 capacity 64 factory 78/meter 2 block 2 ca
 meter 3 block 2 capacity 64 factory 78/meter 4 block 2 capacity 64 factory 78/open 7 1 616263 1 2 3 4/
 ";
 
-/// What each command tells where nothing fails.
+/// What each command tells if nothing fails.
 const WHOLE: &str = "\
 over 111 answer     | get  => 000100010001002fc401c1000929010000000000000000ba7816bf8f01cfea414140de5dae2223b00361a396177a9cb410ff61f20015ad/
 // a line has 83 bytes, and 91 with a release
@@ -340,8 +348,8 @@ fn a_meter_in_a_file(rt: HostRuntime) -> Result<(), Fail> {
     Ok(())
 }
 
-/// Readers that fail. That one is given up after 2^32 reads, and not before, is proved (`read_input` and `Reads::read` of `fw_faults`), and takes
-/// too long to run. A line of 43 bytes is read in 44 reads.
+/// Readers that fail. That one is given up after 2^32 reads, and not before, is proved (`read_input` and `Reads::read` of `fw_faults`), and
+/// takes too long to run. A line of 43 bytes is read in 44 reads.
 const READERS: &str = "\
 breaks 200 answer      | get => Input
 breaks 200 name 0      | abc => Input
@@ -362,7 +370,7 @@ fn readers_that_fail(rt: HostRuntime) -> Result<(), Fail> {
     each(&rt, rt.alloc(), None, READERS)
 }
 
-/// Writers without room for all, also where an event is refused, and captures, whose bytes are 109.
+/// Writers without room for all, also if an event is refused, and captures, whose bytes are 109.
 const WRITERS: &str = "\
 over 0 answer             | 000100010001000dc001c100010100000200ff0200/x/ => Output
 over 1 answer             | 000100010001000dc001c100010100000200ff0200/x/ => Output
@@ -386,7 +394,7 @@ fn writers_that_fail(rt: HostRuntime) -> Result<(), Fail> {
     each(&rt, rt.alloc(), None, WRITERS)
 }
 
-/// Of workers there are 1 to 8. Bad fates and a bad line come first.
+/// The worker count is 1 to 8. Bad fates and a bad line come first.
 const WORKERS: &str = "\
 over 200 rehearse 1 0       | x/   => BadFates
 over 200 rehearse 1 0 dxtlD | x/   => BadFates
@@ -435,6 +443,16 @@ const FAULTS: &[(Fault, &str)] = &[
     (Fault::ForeignHead, "ForeignHead"),
     (Fault::Full, "Full"),
     (Fault::NoAddress(5), "NoAddress 5"),
+    (Fault::KeysFault, "KeysFault"),
+    (Fault::KeysReadable, "KeysReadable"),
+    (Fault::BadKeys(2, BadLine::KeyTwice), "BadKeys 2 KeyTwice"),
+    (Fault::NoKey(7), "NoKey 7"),
+    (Fault::NoCounter, "NoCounter"),
+    (Fault::CounterExists, "CounterExists"),
+    (Fault::CounterLocked, "CounterLocked"),
+    (Fault::CounterFault, "CounterFault"),
+    (Fault::CounterSpent, "CounterSpent"),
+    (Fault::NoRandomness, "NoRandomness"),
     (Fault::Output, "Output"),
     (Fault::OutOfMemory, "OutOfMemory"),
 ];

@@ -1,6 +1,6 @@
-//! Tests of the commands over readers, writers and terminals in memory, and of the meter over a store in memory, through their public calls.
-//! Expected replies and reports are worked out by hand from the standards and the documents, and SHA-256 values are the published ones or those
-//! of `sha256sum`.
+//! Tests of the commands over readers, writers and terminals in memory, and of the meter over a store in memory, through their public
+//! calls. Expected replies and reports are worked out by hand from the standards and the documents, and SHA-256 values are the published
+//! ones or those of `sha256sum`.
 #![tactic(auto)]
 
 #[cfg(test)]
@@ -11,6 +11,8 @@ mod captures;
 mod commands;
 #[cfg(test)]
 mod comparing;
+#[cfg(test)]
+mod counters;
 #[cfg(test)]
 mod faults;
 #[cfg(test)]
@@ -29,6 +31,8 @@ mod rehearsals;
 mod restarts;
 #[cfg(test)]
 mod results;
+#[cfg(test)]
+mod sealed;
 #[cfg(test)]
 mod sessions;
 #[cfg(test)]

@@ -4,7 +4,7 @@ use crate::wire::session;
 use std::test::Fail;
 
 const MOST: &str = "\
-// Where the slots have room for just 16,384 blocks, the reply is the longest that a meter has: its APDU has 2,056 bytes.
+// If the slots have room for just 16,384 blocks, the reply is the longest that a meter has: its APDU has 2,056 bytes.
 new 1 16384 abc
 enable                => set-done
 initiate-16384-blocks => done

@@ -1,5 +1,5 @@
-//! Meters and head ends that are refused for one of their inputs make no store and no book, over files and sockets of this machine. If it is for
-//! a file in the way, they say why.
+//! Meters and head ends that are refused for one of their inputs make no store and no book, over files and sockets of this machine. If it
+//! is for a file in the way, they say why.
 
 use fw_blocks::Width;
 use fw_book::BookError;
@@ -43,6 +43,7 @@ fn two_meters<R: Files<File = File> + Clock + Net + Wait + Eprint>(
         count: Some(2),
         capture: None,
         captures_strangers: false,
+        sealing: None,
     };
     let ended = match run_meter(rt, alloc, &mut Vec::new(alloc), options) {
         Ok(()) => return Err(Fail::from("it ends well")),
@@ -140,6 +141,7 @@ fn head_of<'paths, R: Files<File = File> + Clock + Net + Wait + Eprint>(
         stays: false,
         capture: None,
         captures_strangers: false,
+        sealing: None,
     };
     match run_head(
         rt,

@@ -107,7 +107,7 @@ initiate-of-nothing                          => other-reason
 c301c1001200002c0000ff010102020929010000000700000001 sha-abc 0600000041 => other-reason
 c301c1001200002c0000ff010102020929010000000700000001 sha-abc 06ffffffff => other-reason
 
-// Where nothing is initiated, blocks that fit and ones that don't, verify and activate: temporary-failure.
+// If nothing is initiated, blocks that fit and ones that don't, verify and activate: temporary-failure.
 [NOT_INITIATED_YET]
 ab-at-0            => temporary-failure
 block-out-of-range => temporary-failure
@@ -124,12 +124,12 @@ c301c1001200002c0000ff0201020206000000000903616263 => other-reason
 c301c1001200002c0000ff0201020206000000010900       => other-reason
 c301c1001200002c0000ff02010202060000000109026300   => other-reason
 
-// Where a block is missing, verify and activate: temporary-failure.
+// If a block is missing, verify and activate: temporary-failure.
 [BLOCKS_MISSING]
 verify   => temporary-failure
 activate => temporary-failure
 
-// Where the image is verified, blocks and verify: temporary-failure.
+// If the image is verified, blocks and verify: temporary-failure.
 [VERIFIED_ALREADY]
 ab-at-0            => temporary-failure
 block-out-of-range => temporary-failure

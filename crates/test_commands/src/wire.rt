@@ -10,11 +10,12 @@ use std::alloc::{AllocError, Global};
 use std::test::Fail;
 use test_tables::{Words, expect_at, present};
 
-/// A session with meters, one after another. It begins with a new one that runs `abc`, with blocks of two bytes and room for 64. Its steps stand
-/// between semicolons and line ends:
+/// A session with meters, one after another. It begins with a new one that runs `abc`, with blocks of two bytes and room for 64. Its steps
+/// stand between semicolons and line ends:
 ///
-/// - `REQUEST => REPLY`, in names and digits, with `-` where there is no reply. APDUs go from wPort 1 to wPort 1; what begins with another digit
-///   than `c` is a whole datagram. In place of it stands the name of a section with such lines, of the sections that are passed or of `SESSIONS`
+/// - `REQUEST => REPLY`, in names and digits, with `-` if there is no reply. APDUs go from wPort 1 to wPort 1; what begins with another digit
+/// than `c` is a whole datagram. In place of it stands the name of a section with such lines, of the sections that are passed or of
+/// `SESSIONS`
 /// - `in-vain` before those: they change nothing that can be seen
 /// - `shows TEXT`: what can be seen of the meter, as `sight` gives it; `limit N`: an image may have at most N blocks
 /// - `fuse N`: N more calls of the store succeed, and a write that then fails leaves the byte ee; `unfuse`: no call fails any more
@@ -209,7 +210,7 @@ impl Wire {
         expect_at(alloc, line, &reply, &datagram(alloc, want)?)
     }
 
-    /// The reply to a request, or `-` where there is none.
+    /// The reply to a request, or `-` if there is none.
     fn reply_to(&mut self, alloc: Global, request: &str) -> Result<String, Fail> {
         let datagram = hex::decode(alloc, datagram(alloc, request)?.as_str())?;
         let handled = self.meter.handle(alloc, &datagram)?;

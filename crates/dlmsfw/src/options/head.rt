@@ -1,7 +1,10 @@
 //! The command `head`, and its help.
 
 use super::manual::{CommandOption, Manual, Presence, Takes};
-use super::{DAEMON_CAPTURE, DAEMON_CAPTURE_STRANGERS, Invocation, WrongValue, address, manual};
+use super::{
+    DAEMON_CAPTURE, DAEMON_CAPTURE_STRANGERS, Invocation, KEYS, NEW_COUNTER, STRICT, WrongValue,
+    address, manual, sealing_of,
+};
 use clap::{ArgMatches, Command};
 use fw_blocks::Width;
 use fw_cli::HeadOptions;
@@ -42,8 +45,18 @@ meters at most, with serial numbers from SERIAL on. A campaign that the book has
 and image and for those meters in that order, is gone on with. With --cancel the live rows of that
 campaign are cancelled first.
 
-A file is made once all is judged: LIST, the image, the address, and what is cancelled and opened. CAPTURE
-comes first then, and a new FILE last. Of a FILE that is there --open is judged once --cancel is done.
+With --keys KEYS all that is sent is sealed, and what is taken was sealed by the meter that it is taken
+for, as `meter --help` says it. A line of KEYS is that of a link with a meter: its number, its system title
+in 16 hexadecimal digits, and the encryption key and the authentication key in 32 each, as
+`1,4b5a424d00000001,KEY,AUTHENTICATION`. Each meter of LIST has one. The head end's own system title has
+its number: 4b5a4248 and 8 digits more, as 4b5a424800000007 of head end 7. FILE.counter keeps which numbers
+of what is sent are used, and --new-counter makes it: for keys that were never used, also if FILE is new.
+What is cut off FILE.counter, as it is off FILE, is kept in FILE.counter.dropped, and costs nothing.
+With --strict one block goes to a meter at a time, whatever --width is.
+
+A file is made once all is judged: LIST, the image, KEYS, the address, FILE.counter, and what is cancelled
+and opened. CAPTURE comes first then, a new FILE.counter next, and a new FILE last. Of a FILE that is
+there --open is judged once --cancel is done.
 
 A row is asked when nothing of it is outstanding, or after four times its last round trip, which is
 --resend at first and at least; a quarter longer after each time in which nothing at all came from
@@ -67,8 +80,9 @@ Of each campaign that has live rows from an earlier run standard error says at t
 `going on with campaign HEAD SERIAL: L live, D done, F failed`. Then it shows how many rows are live, and
 how many of this run are done and failed; how many datagrams a second went and came (datagrams/s); and how
 often in this run a row was asked again since no answer came (resends), a datagram came from elsewhere
-(strangers), and the socket failed (faults). A terminal shows it in one line, anew each second. Elsewhere
-it is a line each --every SECONDS in which a datagram went or came.
+(strangers), and the socket failed (faults); with --keys also how many datagrams weren't let through
+(unopened), where there were any. A terminal shows it in one line, anew each second. Elsewhere it is a line
+each --every SECONDS in which a datagram went or came.
 
 Example, in two terminals, an image for the meter at port 4059:
 
@@ -84,7 +98,7 @@ Exit status:
   0  no row is live, and in this run none failed
   1  a fault: standard error has `dlmsfw: NAME`, with one of these names, and a second line with the
      option that it is about. If the cause is known, it goes on with `: ` and the cause, and before it
-     the name of the file that is meant, if that is the one beside FILE or CAPTURE:
+     the name of the file that is meant, if that is the one beside FILE or CAPTURE, or FILE.counter:
      `--book FILE: FILE.new: it is another program's file`
        ListFault       LIST can't be opened or read: it isn't there, it is a folder, or this user has no
                        right to it. Or it has more than 64 MiB, without a cause
@@ -92,6 +106,19 @@ Exit status:
                        or an address that an earlier line has, or an address that can't be asked, or a
                        name that has none which can
        ImageFault      the file of --image can't be opened or read, for the same causes
+       KeysFault       KEYS can't be opened or read: it isn't there, it is a folder, or this user has no
+                       right to it
+       KeysReadable    others than its owner have a right to KEYS: `chmod 600 KEYS` takes it away
+       BadKeys L CAUSE line L of KEYS, counted from 1, is none of it; `meter --help` has the causes
+       NoKey N         meter N is in LIST, and has no line in KEYS
+       NoCounter       FILE.counter isn't there, and --new-counter isn't given. Where it is lost, all ends
+                       need new keys; where FILE was renamed, it is renamed too
+       CounterExists   FILE.counter is there, and --new-counter is given: the head end goes on without that
+                       option. FILE.counter isn't removed while its keys are used
+       CounterLocked   another process has FILE.counter
+       CounterFault    FILE.counter can't be made, opened or read, or holds no numbers: its bytes were
+                       changed. Or it can't be written later, without a cause
+       CounterSpent    all 4294967295 numbers are used: the head end and its meters need new keys
        BadSetup        the campaigns need serial numbers above 4294967295
        Socket          datagrams can't be received at --listen: it is in use, this machine has no such
                        address, or this user has no right to it. Or the socket failed 1000 times in a
@@ -191,6 +218,9 @@ const MANUAL: &Manual = &Manual {
             presence: Presence::Default("60"),
             help: "Seconds from one line of progress to the next, 0 to 86400, where standard error is no terminal; 0: none",
         },
+        KEYS,
+        NEW_COUNTER,
+        STRICT,
         DAEMON_CAPTURE,
         DAEMON_CAPTURE_STRANGERS,
         CommandOption {
@@ -260,6 +290,7 @@ pub(super) fn invoked<'a>(
         stays: given.get_flag("stay"),
         capture: given.get_str("capture"),
         captures_strangers: given.get_flag("capture-strangers"),
+        sealing: sealing_of(given),
     };
     Ok(Some(Invocation::Head(options, every)))
 }
@@ -269,8 +300,11 @@ fn head_of<'a>(given: &ArgMatches<'a>) -> Option<HeadId> {
     HeadId::new(given.get_one("head")?)
 }
 
-/// How many blocks are sent at a time.
+/// How many blocks are sent at a time. If none may be overtaken, that is one.
 fn width_of<'a>(given: &ArgMatches<'a>) -> Option<Width> {
+    if given.get_flag("strict") {
+        return Width::new(1);
+    }
     Width::new(given.get_one("width")?)
 }
 

@@ -46,6 +46,8 @@ pub(super) enum Presence {
     Optional,
     /// It may be, with this other option alone.
     With(&'static str),
+    /// It may be, but not with this other option.
+    Without(&'static str),
     /// It may be; without it, it has this value.
     Default(&'static str),
 }
@@ -77,6 +79,7 @@ fn argument<'a>(alloc: Global, option: &'static CommandOption) -> Result<Arg<'a>
         Presence::Required => Ok(argument.required(true)),
         Presence::Optional => Ok(argument),
         Presence::With(other) => argument.requires_arg(other),
+        Presence::Without(other) => argument.conflicts_with(other),
         Presence::Default(value) => Ok(argument.default_value(value)),
     }
 }

@@ -1,7 +1,10 @@
 //! The command `meter`, and its help.
 
 use super::manual::{CommandOption, Manual, Presence, Takes};
-use super::{DAEMON_CAPTURE, DAEMON_CAPTURE_STRANGERS, Invocation, WrongValue, address, manual};
+use super::{
+    DAEMON_CAPTURE, DAEMON_CAPTURE_STRANGERS, Invocation, KEYS, NEW_COUNTER, STRICT, WrongValue,
+    address, manual, sealing_of,
+};
 use clap::{ArgMatches, Command};
 use fw_cli::MeterOptions;
 use fw_host::NewMeter;
@@ -29,14 +32,31 @@ that the system picks.
 With --count N there are N meters in one process, a fleet to try a head end on: meter K receives at PORT
 and K - 1 more, and is in FILE.K. What was dropped is that of all. Each needs three open files, which the
 system may limit (`ulimit -n`). If one can't be set up, none serves; new files that were made by then stay.
+With --keys there is one meter, without --count.
 
-A file is made once all is judged: each address, each FILE that is there, and what a new meter is made
-with. CAPTURE comes first then, and each new FILE last.
+With --keys KEYS all that is sent is sealed, and what is taken was sealed by a head end of KEYS: with
+AES-128-GCM, as security suite 0 of IEC 62056-5-3 has it. A datagram that isn't, plain ones too, is
+dropped, and so is one that came already. The first line of KEYS is the meter's system title in 16
+hexadecimal digits. Each other line is that of a link with a head end: its address, its system title, and
+the encryption key and the authentication key in 32 hexadecimal digits each, as
+`127.0.0.1:4058,4b5a424800000007,KEY,AUTHENTICATION`. At [::] an IPv4 address stands there as the one that
+comes then, [::ffff:127.0.0.1]:4058. Only its owner may read KEYS. `keys --help` has how such files are made.
+
+What is sent with a key has a number, and none may be used twice. FILE.counter keeps which are used, and
+--new-counter makes it: for keys that were never used. A FILE.counter that was copied back, or made anew
+for keys that were used, gives them away; where it is lost, the meter needs new keys. A new FILE goes on
+with the FILE.counter that is there. A record that a kill left behind its end is kept in
+FILE.counter.dropped, which costs nothing, and standard error says so. A datagram is taken that less than
+64 later ones overtook; with --strict none is.
+
+A file is made once all is judged: each address, KEYS, each FILE that is there, FILE.counter, and what a
+new meter is made with. CAPTURE comes first then, a new FILE.counter next, and each new FILE last. With
+--keys CAPTURE has what was on the wire, sealed.
 
 With --capture CAPTURE all that is received and sent is appended to CAPTURE as pcap, which Wireshark and
 `trace` read: each datagram before it is handled or sent, and so its reply isn't sent where CAPTURE can't
-be written. Where no such file is there, it is made, and else it must be such a capture, of which what is
-no whole packet at its end is cut off, as a power cut or a full disk leaves it. The start of the process
+be written. If no such file is there, it is made. One that is there must be such a capture, and what is no
+whole packet at its end is cut off, as a power cut or a full disk leaves it. The start of the process
 is a packet of its own, and so is each turn of a verification. Of datagrams from addresses that may not
 ask just their number is a packet, before the next one, unless --capture-strangers is given. A process
 that is killed leaves whole packets. One process at a time has a CAPTURE.
@@ -51,7 +71,8 @@ the first:
   dropped strangers S unserved U faults F      where these grew, once a minute at most: the datagrams
                                                from addresses that may not ask, those for which memory
                                                was refused, and how often the socket failed, since the
-                                               meter was started
+                                               meter was started; with --keys, `unopened N` at its end says
+                                               how many weren't let through, where there were any
 
 Example, in two terminals, a GET of image_transfer_status, which is 0 in a new meter:
 
@@ -73,7 +94,8 @@ Exit status:
      option that it is about; with --count, FILE is FILE.K of meter K, which has the fault, and after
      the address of the first meter stands `, meter K`. If the cause is known, the second line goes on
      with `: ` and the cause, and before it the name of the file that is meant, if that is the one
-     beside FILE or CAPTURE: `--store FILE: FILE.new: it is another program's file`
+     beside FILE or CAPTURE: `--store FILE: FILE.new: it is another program's file`. So has
+     FILE.counter: `--store FILE: FILE.counter: there is no such file or folder`
        Socket        datagrams can't be received at --listen: it is in use, this machine has no such
                      address, there is no such port, this user has no right to it, or a process may not
                      have that number of open files; no file was made. Or the socket failed 1000 times
@@ -90,10 +112,25 @@ Exit status:
        BadHeader     FILE has no header that a meter writes: its bytes were changed
        BadImage      an image in FILE, which runs or is verified, hasn't the digest of its name: its
                      bytes were changed
+       KeysFault     KEYS can't be opened or read: it isn't there, it is a folder, or this user has no
+                     right to it
+       KeysReadable  others than its owner have a right to KEYS: `chmod 600 KEYS` takes it away
+       BadKeys L CAUSE
+                     line L of KEYS, counted from 1, is none of it: BadTitle (the first has no title),
+                     BadFields, BadName (no address with a port), TitlesEqual (the other end has the
+                     title of this one), KeyTwice or NameTwice (an earlier line has it)
+       NoCounter     FILE.counter isn't there, and --new-counter isn't given. Where it is lost, both ends
+                     need new keys; where FILE was renamed, it is renamed too
+       CounterExists FILE.counter is there, and --new-counter is given: the meter goes on without that
+                     option. FILE.counter isn't removed while its keys are used
+       CounterLocked another process has FILE.counter
+       CounterFault  FILE.counter can't be made, opened or read, or holds no numbers: its bytes were
+                     changed; no new FILE was made. Or it can't be written later, without a cause
+       CounterSpent  all 4294967295 numbers are used: the meter needs new keys
        FactoryFault  FILE isn't there, and the file of --factory-file can't be read: it isn't there
                      either, it is a folder, or this user has no right to it
        BadSetup      FILE isn't there, and the factory image is empty or longer than the capacity; the
-                     second line has --factory-file where it is given, and else --capacity
+                     second line has --factory-file if it is given, and --capacity if not
        CaptureFault  CAPTURE can't be made, opened or written: another process has it, there is no
                      such folder, it is a folder or a link or has a second name, this user may not
                      read and write it, too many files are open, what is named CAPTURE.new is another
@@ -104,7 +141,8 @@ Exit status:
                      packet before its end is damaged; it is left as it is
        Output        the first line can't be written to standard output
        OutOfMemory   the system gives no more memory
-     Except at a Socket or a CaptureFault that came later nothing was answered.
+     Except at a Socket, a CaptureFault, a CounterFault or a CounterSpent that came later nothing was
+     answered.
   2  a wrong command line: standard error says what is wrong";
 
 /// The command and its options.
@@ -151,9 +189,12 @@ const MANUAL: &Manual = &Manual {
         CommandOption {
             name: "count",
             takes: Takes::Within("N", 1, 4_096),
-            presence: Presence::Optional,
+            presence: Presence::Without("keys"),
             help: "Runs meters 1 to N, 4096 at most, at ports from PORT on",
         },
+        KEYS,
+        NEW_COUNTER,
+        STRICT,
         DAEMON_CAPTURE,
         DAEMON_CAPTURE_STRANGERS,
     ],
@@ -191,6 +232,7 @@ pub(super) fn invoked<'a>(
         count: given.get_one("count"),
         capture: given.get_str("capture"),
         captures_strangers: given.get_flag("capture-strangers"),
+        sealing: sealing_of(given),
     })))
 }
 
@@ -207,7 +249,8 @@ fn heads_at<'a>(
     Ok(heads)
 }
 
-/// The address that the value of --head is. To a socket at all IPv6 addresses an IPv4 one comes as the IPv4-mapped address (RFC 4291, 2.5.5.2).
+/// The address that the value of --head is. To a socket at all IPv6 addresses an IPv4 one comes as the IPv4-mapped address (RFC 4291,
+/// 2.5.5.2).
 fn head_at<'a>(listen: SocketAddr, text: &'a str) -> Result<SocketAddr, WrongValue<'a>> {
     let head = address("head", text)?;
     match (listen.ip(), head.ip()) {

@@ -3,6 +3,7 @@
 use super::manual;
 use super::manual::{CommandOption, Manual, Presence, Takes};
 use clap::{ArgMatches, Command};
+use fw_names::HeadId;
 use std::alloc::{AllocError, Global};
 
 /// What the long help begins with.
@@ -21,18 +22,32 @@ where its process started, `turn` where a meter took a turn of a verification, o
 datagrams came from strangers since the packet before, and aren't there. Other packets are passed over:
 fragments, and those that aren't UDP over IP. All input is read before anything is written.
 
-Example:
+`sealed N unopened (K bytes)` is a datagram in the form of what is sealed, with its invocation counter N.
+With --keys and --head what either end of a link in KEYS sealed is opened, and `sealed N` stands before
+what it says. What stays unopened then is of another link, or was changed. The links are tried one after
+another until one opens a datagram, so with those of thousands of meters it takes long.
 
-  ./dlmsfw trace examples/transfer.pcap";
+With --plain the capture is written once more, with what was opened in the place of what was sealed:
+Wireshark and others need no keys for it. OUT has what was secret, so it is a new file, and no one but its
+owner may read it. Packets that have no line aren't there.
+
+Examples:
+
+  ./dlmsfw trace examples/transfer.pcap
+  ./dlmsfw trace --keys head.keys --head 7 --plain plain.pcap sealed.pcap";
 
 /// What ends the long help.
 const ENDINGS: &str = "\
 Exit status:
   0  the capture was told
-  1  a fault: standard error has `dlmsfw: NAME`, with one of these names. If CAPTURE can't be opened or
-     read, a second line has its name, and behind it the cause, if that is known
+  1  a fault: standard error has `dlmsfw: NAME`, with one of these names. If it is about a file, a second
+     line has its name, and behind it the cause, if that is known
+       KeysFault          KEYS can't be opened or read, is no regular file, or has more than 64 MiB
+       KeysReadable       others than its owner may read or write KEYS
+       BadKeys L CAUSE    line L of KEYS, counted from 1, is none of it; `meter --help` has the causes
        CaptureFault       CAPTURE can't be opened: it isn't there, this user has no right to it, or too
-                          many files are open
+                          many files are open. Or OUT can't be made or written: a file is there, there is
+                          no such folder, or the disk is full. Or a packet is longer than 65535 bytes
        Input              a read of CAPTURE or of standard input failed, as where it is a folder
        TooMuchInput       the capture has more than 64 MiB
        BadCapture F N     its first fault is F, in the record at offset N, or in the file header at 0;
@@ -47,12 +62,32 @@ Exit status:
 const MANUAL: &Manual = &Manual {
     name: "trace",
     about: "Tells what the datagrams of a capture say",
-    options: &[CommandOption {
-        name: "capture",
-        takes: Takes::Argument("CAPTURE"),
-        presence: Presence::Optional,
-        help: "The file that has the capture; standard input if left out",
-    }],
+    options: &[
+        CommandOption {
+            name: "capture",
+            takes: Takes::Argument("CAPTURE"),
+            presence: Presence::Optional,
+            help: "The file that has the capture; standard input if left out",
+        },
+        CommandOption {
+            name: "keys",
+            takes: Takes::Text("KEYS"),
+            presence: Presence::With("head"),
+            help: "The key file of a head end, which opens what was sealed",
+        },
+        CommandOption {
+            name: "head",
+            takes: Takes::Within("N", 1, u32::MAX),
+            presence: Presence::With("keys"),
+            help: "The number of the head end, 1 to 4294967295",
+        },
+        CommandOption {
+            name: "plain",
+            takes: Takes::Text("OUT"),
+            presence: Presence::With("keys"),
+            help: "The new file that gets the capture with what was opened",
+        },
+    ],
 };
 
 /// The parser of the command.
@@ -65,11 +100,24 @@ pub(super) fn command<'a>(alloc: Global) -> Result<Command<'a>, AllocError> {
 pub(crate) struct TraceOptions<'a> {
     /// The file that has the capture; where it lacks, standard input has it.
     pub(crate) capture: Option<&'a str>,
+    /// The key file, if one is given, with the number of its head end.
+    pub(crate) keys: Option<&'a str>,
+    pub(crate) head: Option<HeadId>,
+    /// The file that gets the capture in plain words, if one is asked for.
+    pub(crate) plain: Option<&'a str>,
 }
 
 /// The options that were given.
 pub(super) fn options<'a>(given: &ArgMatches<'a>) -> TraceOptions<'a> {
     TraceOptions {
         capture: given.get_str("capture"),
+        keys: given.get_str("keys"),
+        head: head_of(given),
+        plain: given.get_str("plain"),
     }
+}
+
+/// The number of the head end that is given.
+fn head_of<'a>(given: &ArgMatches<'a>) -> Option<HeadId> {
+    HeadId::new(given.get_one("head")?)
 }

@@ -100,7 +100,8 @@ fn judged(alloc: Global, disk: &Disk) -> Result<Outcome, Fail> {
     }
 }
 
-/// The file of a meter that was made with `factory`, with blocks of two bytes and slots of `capacity` bytes, after these datagrams, if any came.
+/// The file of a meter that was made with `factory`, with blocks of two bytes and slots of `capacity` bytes, after these datagrams, if any
+/// came.
 fn file_of(alloc: Global, capacity: u32, factory: &str, names: &str) -> Result<Vec<u8>, Fail> {
     let disk = Disk::with(alloc, b"")?;
     DeviceStore::create_on(disk.open()?, capacity, 2, factory.as_bytes())?;
@@ -178,9 +179,9 @@ fn cut_at_each_length(rt: HostRuntime) -> Result<(), Fail> {
     Ok(())
 }
 
-/// A row has what is turned: of a file with a header of version 2, `new`, or of version 1, `old`, each byte that stands before the slots or is of
-/// a release, to each value; or each bit of the further `marks` of version 2. Then it has the file, as `file_of` makes it. It tells from how many
-/// files the meter is opened, and how many are bad files, bad headers and bad images.
+/// A row has what is turned: of a file with a header of version 2, `new`, or of version 1, `old`, each byte that stands before the slots or
+/// is of a release, to each value; or each bit of the further `marks` of version 2. Then it has the file, as `file_of` makes it. It tells
+/// from how many files the meter is opened, and how many are bad files, bad headers and bad images.
 #[derive(Clone, Copy)]
 struct Turned;
 
@@ -211,7 +212,8 @@ impl Reads for Turned {
     }
 }
 
-/// Turns the bytes of a file from `start` on up to `end`, one at a time: each to each value, or each of their bits where they are further marks.
+/// Turns the bytes of a file from `start` on up to `end`, one at a time: each to each value, or each of their bits where they are further
+/// marks.
 fn turn_all(
     alloc: Global,
     file: &mut [u8],
@@ -239,8 +241,9 @@ fn turn_byte(file: &mut [u8], at: usize, turn: u8) {
     }
 }
 
-/// Of each of the 626 bytes that stand before the slots or are releases the value that it has opens the meter. A file with another capacity has
-/// another length than its store, except one that has that of a store of version 1, as which it doesn't begin, or of one without releases.
+/// Of each of the 626 bytes that stand before the slots or are releases the value that it has opens the meter. A file with another capacity
+/// has another length than its store, except one that has that of a store of version 1, as which it doesn't begin, or of one without
+/// releases.
 ///
 /// The meter runs `x` and receives `abc`, of which the second block is there. Beside its own header a store can have: not enabled; a block
 /// size of 1; a goal of 4 to 8 bytes, which has a second block too; a goal in another campaign, whose two numbers are any except 0, with
@@ -257,7 +260,7 @@ const RECEIVING: &str = "
 ";
 
 /// A new store with 64 bytes a slot. Beside its own header it can have: enabled; status 6; a block size of 258, 514 or 770, and any of 1 to
-/// 255. The image isn't the name's where it is in the other slot, has another size of 1 to 64, or the name another digest.
+/// 255. The image isn't the name's if it is in the other slot, has another size of 1 to 64, or the name another digest.
 const NEW: &str = "
     // Opened: 626 + 1 + 1 + 3 + 254. Bad images: 1 + 63 + 32 * 255. With 832 bytes a slot it is a bad header.
     new 64 abc => [885, 1019, 150128, 8224]
@@ -276,9 +279,9 @@ const VERIFIED: &str = "
     marks 64 x enable initiate block-0 block-1 verify => [0, 0, 12288, 0]
 ";
 
-/// A store that runs `abc` of release 5 from its second slot. Beside its own header it can have: not enabled; status 0; each other block size as a
-/// new one; a name of another campaign, whose numbers are any except 0, or of any release. The image isn't the name's in the other slot, with
-/// another size, or under another digest.
+/// A store that runs `abc` of release 5 from its second slot. Beside its own header it can have: not enabled; status 0; each other block
+/// size as a new one; a name of another campaign, whose numbers are any except 0, or of any release. The image isn't the name's in the
+/// other slot, with another size, or under another digest.
 const RELEASED: &str = "
     // Opened: 626 + 1 + 1 + 3 + 254 + 2 * (3 * 255 + 254) + 4 * 255. Bad images: 1 + 63 + 32 * 255.
     new 64 x enable initiate-5 block-0 block-1 verify activate => [3943, 1019, 147070, 8224]

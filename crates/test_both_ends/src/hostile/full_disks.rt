@@ -11,7 +11,7 @@ use std::test::Fail;
 use test_tables::{Words, present};
 
 /// A campaign for a meter that runs `x`, with blocks of two bytes and room for eight; the first block comes as `zz`, and once more as `ab`,
-/// now under its old mark. A line for each operation: the request, the reply where the store failed, and the one where it is done; then
+/// now under its old mark. A line for each operation: the request, the reply if the store failed, and the one where it is done; then
 /// where in the file the block begins and ends that it writes, and how many bytes it writes: those of the block, and the 2,158 of a header.
 /// The second slot of the file begins at byte 626.
 const CAMPAIGN: &str = "\
@@ -61,7 +61,7 @@ fn files(alloc: Global) -> Result<Vec<Vec<u8>>, Fail> {
     Ok(files)
 }
 
-/// The file is as before an operation, except from `start` on up to `end`, where each byte is as before it or as after it.
+/// The file is as before an operation, except from `start` on up to `end`, if each byte is as before it or as after it.
 fn is_between(found: &[u8], before: &[u8], after: &[u8], start: usize, end: usize) -> bool {
     found.len() == before.len()
         && found.iter().zip(before.iter().zip(after)).enumerate().all(|(
@@ -76,8 +76,8 @@ fn reads_of(alloc: Global, reads: &[Vec<u8>], file: &[u8]) -> Result<Vec<u8>, Fa
     replies(alloc, &disk, reads)
 }
 
-/// The operation of this line, between these files, with room for each number of bytes up to those that it writes. The meter is as before where
-/// that doesn't suffice, and else as after it.
+/// The operation of this line, between these files, with room for each number of bytes up to those that it writes. The meter is as before
+/// where that doesn't suffice, and else as after it.
 fn on_full_disks(alloc: Global, line: &str, before: &[u8], after: &[u8]) -> Result<usize, Fail> {
     let (names, numbers) = present(line.split_once(':'), "names and numbers")?;
     let [start, end, writes]: [u32; 3] = Words::new(numbers).read()?;
@@ -190,7 +190,7 @@ fn opened_on_full_disks(alloc: Global, old: &[u8], new: &[u8]) -> Result<usize, 
     Ok(tried)
 }
 
-/// The meter in an old file on a disk that is only read: it isn't opened, and the file stays as it is. Where its header is kept it is, and
+/// The meter in an old file on a disk that is only read: it isn't opened, and the file stays as it is. If its header is kept it is, and
 /// answers the reads as the one in the new file.
 fn on_read_only_disk_as_old(alloc: Global, old: &[u8], new: &[u8]) -> Result<(), Fail> {
     let reads = datagrams(alloc, READS)?;
@@ -208,8 +208,8 @@ fn on_read_only_disk_as_old(alloc: Global, old: &[u8], new: &[u8]) -> Result<(),
     Ok(())
 }
 
-/// The file of a new meter, and the one after each operation, with a header of version 1. All releases are 0. The meter in the old file answers
-/// the reads as the one in the new file.
+/// The file of a new meter, and the one after each operation, with a header of version 1. All releases are 0. The meter in the old file
+/// answers the reads as the one in the new file.
 #[test]
 fn an_old_store_on_a_disk_that_is_full_or_only_read(rt: HostRuntime) -> Result<(), Fail> {
     let alloc = rt.alloc();

@@ -8,7 +8,7 @@ use test_tables::{named, present};
 
 /// Datagrams to a meter, and its replies: an enable, which sets image_transfer_enabled to true; an initiate for `abc` of campaign 1 of head
 /// end 7, and one for the same of release 5; its two blocks of two bytes, and `zz` in place of the first; GETs of attributes 2 to 7, and of
-/// the active firmware identifier; the replies to a SET and to an ACTION, where the store failed, and where it is done.
+/// the active firmware identifier; the replies to a SET and to an ACTION, if the store failed, and where it is done.
 const DATAGRAMS: &str = "
     enable = 000100010001000fc101c1001200002c0000ff05000301
     initiate = 000100010001003fc301c1001200002c0000ff010102020929010000000700000001ba7816bf8f01cfea414140de5dae2223b00361a396177a9cb410ff61f20015ad0600000003

@@ -23,7 +23,7 @@ struct MemoryWire<'a, R: Wait> {
     alloc: Global,
     out: Sender<Vec<u8>>,
     into: Receiver<Vec<u8>>,
-    /// Where it is bad, every third send fails, every fourth takes all except the last byte, and every fifth receive fails.
+    /// If it is bad, every third send fails, every fourth takes all except the last byte, and every fifth receive fails.
     is_bad: bool,
     sends: u32,
     receives: u32,
@@ -110,8 +110,8 @@ fn wires<'a, R: Wait>(
     Ok(wires)
 }
 
-/// Rollouts of rows `live SETUP SCRIPT ROUNDS WORKERS WIRES AIR GATE`: the report of the world and the board's count, or the refusal. With a word
-/// after them it is whether the board's count is the number of rows that are done.
+/// Rollouts of rows `live SETUP SCRIPT ROUNDS WORKERS WIRES AIR GATE`: the report of the world and the board's count, or the refusal. With
+/// a word after them it is whether the board's count is the number of rows that are done.
 pub(crate) fn rolled_out<R: Threads + Wait + Sync>(
     rt: &R,
     alloc: Global,
@@ -134,8 +134,8 @@ pub(crate) fn rolled_out<R: Threads + Wait + Sync>(
     outcome(alloc, &task.setup, made, words.next())
 }
 
-/// What workers of rows `sockets SETUP SCRIPT ROUNDS WORKERS GATE` lead to over sockets: whether the board's count is the number of rows that are
-/// done, and how many workers have receipts.
+/// What workers of rows `sockets SETUP SCRIPT ROUNDS WORKERS GATE` lead to over sockets: whether the board's count is the number of rows
+/// that are done, and how many workers have receipts.
 pub(crate) fn over_sockets<R: Threads + Wait + Net + Sync>(
     rt: &R,
     alloc: Global,
@@ -156,7 +156,7 @@ pub(crate) fn over_sockets<R: Threads + Wait + Net + Sync>(
     Ok(format!(in alloc; "{:?}", (is_counted, made.receipts.len()))?)
 }
 
-/// Where nothing is lost, each link is done in its ninth round, when twenty datagrams were sent on it. What bad wires lose isn't fixed, and so
+/// If nothing is lost, each link is done in its ninth round, when twenty datagrams were sent on it. What bad wires lose isn't fixed, and so
 /// isn't how many rows are done.
 const ROLLOUTS: &str = "
     live four opened_for_four 9 2 4 good meet    => four_done

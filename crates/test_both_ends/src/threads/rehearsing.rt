@@ -97,8 +97,8 @@ fn told_as(
     Ok(format!(in alloc; "{:?}", (receipts.len(), turns))?)
 }
 
-/// What two workers do together over bad air, also where one of them is held. Each link is done in its sixteenth round, when thirty datagrams were
-/// sent on it. Each worker's passes are counted from 0 on, and there is one before each event.
+/// What two workers do together over bad air, also if one of them is held. Each link is done in its sixteenth round, when thirty datagrams
+/// were sent on it. Each worker's passes are counted from 0 on, and there is one before each event.
 const GATED: &str = "
     rehearse four opened_for_four 40 2 bad meet => four_done_over_bad_air
     rehearse four opened_for_four 40 2 bad held 0 => four_done_over_bad_air
@@ -107,8 +107,8 @@ const GATED: &str = "
     rehearse four opened_for_four 40 2 bad counted each_event_passed => true
 ";
 
-/// Both links of each meter have different workers. Which image a meter has at the end isn't fixed, nor how many rows are done. With a release
-/// of each head end no meter goes back to a lower one.
+/// Both links of each meter have different workers. Which image a meter has at the end isn't fixed, nor how many rows are done. With a
+/// release of each head end no meter goes back to a lower one.
 const BY_THREE: &str = "
     rehearse two_heads opened_by_two 40 3 good open board_counts_rows => true
     rehearse two_heads released_by_two 40 3 good open releases_rise => true
@@ -143,7 +143,7 @@ const REHEARSALS: &str = "
     // it verified, and three up to the end: 3 + 5 + 1 + 1 + 16 + 3
     rehearse largest opened_largest 29 1 good open => ([(7, 1, 1, Done)], [(1, 6, 7, 1, 65537)], 1, 178); board 1
 
-    // the setup comes first: no workers and nine workers, where there are 1 to 8, and what no world is made with
+    // the setup comes first: no workers and nine workers, if there are 1 to 8, and what no world is made with
     rehearse small   opened       9 0 good open => BadSetup
     rehearse small   opened       9 9 good open => BadSetup
     rehearse no_head opened       9 0 good open => BadSetup

@@ -8,8 +8,8 @@ use std::alloc::Global;
 use std::test::Fail;
 use test_tables::{Words, named};
 
-/// What worlds are made with: one meter, four, four of two head ends that compete for them, one with blocks of 1,024 bytes, one with more bytes
-/// than two bytes can count, two, one without a head end, and an old one.
+/// What worlds are made with: one meter, four, four of two head ends that compete for them, one with blocks of 1,024 bytes, one with more
+/// bytes than two bytes can count, two, one without a head end, and an old one.
 const SETUPS: &str = "
     small     = head 7 4; meter 1 2 64 x
     four      = head 7 4; meter 1 2 64 x; meter 2 2 64 x; meter 3 2 64 x; meter 4 2 64 x
@@ -21,9 +21,10 @@ const SETUPS: &str = "
     old_small = head 7 4; old 1 2 64 x
 ";
 
-/// Campaigns for them: opened, and up to the first answer and to the end; after that of an image of release 5, one of an image without a release
-/// for the same meter; images that are verified in slices, and 4,097 bytes in five blocks, by windows of four, up to where they are verified.
-/// Then a campaign that is opened twice, a meter that is live in another one, a datagram that was never sent, and restarts that stop.
+/// Campaigns for them: opened, and up to the first answer and to the end; after that of an image of release 5, one of an image without a
+/// release for the same meter; images that are verified in slices, and 4,097 bytes in five blocks, by windows of four, up to where they are
+/// verified. Then a campaign that is opened twice, a meter that is live in another one, a datagram that was never sent, and restarts that
+/// stop.
 const SCRIPTS: &str = "
     opened           = open 7 1 abc 1
     answered         = open 7 1 abc 1; tick 7 1; deliver 0 1
@@ -91,8 +92,8 @@ impl Task {
     }
 }
 
-/// What workers lead to: the report of the world and the board's count, or the refusal. Where a word asks for it, it is whether that count is the
-/// number of rows that are done.
+/// What workers lead to: the report of the world and the board's count, or the refusal. If a word asks for it, it is whether that count is
+/// the number of rows that are done.
 pub(crate) fn outcome(
     alloc: Global,
     setup: &Setup,

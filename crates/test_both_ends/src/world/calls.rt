@@ -7,8 +7,8 @@ use std::alloc::Global;
 use std::test::Fail;
 use test_tables::{Reads, each_part, present};
 
-/// A world takes the events of a script one after another, also after one that is refused: each refusal, then the most blocks that an image for
-/// meter 1 may have, and then the report.
+/// A world takes the events of a script one after another, also after one that is refused: each refusal, then the most blocks that an image
+/// for meter 1 may have, and then the report.
 #[derive(Clone, Copy)]
 struct Steps;
 
@@ -65,7 +65,7 @@ const OF_A_VERIFIED_IMAGE: &str = "
     old-small: to-blocks; to-verify; to-verified; stop-restart 1 4 0; stop-restart 1 3 0   => limit 16384; ([(7, 1, 1, Live)], [(1, 3, 0, 0, 1)], 0, 14)
 ";
 
-/// Where nothing is verified an opening has two calls, and the write is the third. A restart makes it, and so does the one after a stop.
+/// If nothing is verified an opening has two calls, and the write is the third. A restart makes it, and so does the one after a stop.
 const WITHOUT_ONE: &str = "
     old-small:                               => limit 4096; ([], [(1, 0, 0, 0, 1)], 0, 0)
     old-small: stop-restart 1 2 0            => limit 4096; ([], [(1, 0, 0, 0, 1)], 0, 0)

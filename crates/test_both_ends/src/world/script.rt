@@ -47,7 +47,7 @@ const PARTS: &str = "
         deliver 15 16 17 18 19 20 21 22 23; tick 7 1; deliver 24 25; tick 7 1
     // The verify of them, and one turn.
     verifying = deliver 26 27; turn 1
-    // After a restart in status 2 the head end goes back to `Check`, where all blocks are there, and asks to verify anew.
+    // After a restart in status 2 the head end goes back to `Check`, if all blocks are there, and asks to verify anew.
     verified-anew = tick 7 1; deliver 28 29; tick 7 1; deliver 30 31; tick 7 1; deliver 32 33; turn 1; turn 1; tick 7 1; deliver 34 35; tick 7 1; \
         deliver 36 37; tick 7 1; deliver 38 39; tick 7 1; deliver 40 41
     // An image of as many blocks as an old meter takes, up to where it is asked to initiate, which datagram 4 is.

@@ -6,7 +6,7 @@ use Rattle.fw_cli.specs.Session.{AnswersLineOver, line_for}
 use Rattle.fw_cli.proofs.Turns.{goes_on, ends, stops, begins_well, on_err, on_true, on_false}
 use Rattle.fw_cli.proofs.serving.answer_lines.Goals as goal
 
--- where there was no reply, and where there was one
+-- if there was no reply, and where there was one
 pub loop-line-preserved-in_ok-append_line : goal.loop-line-preserved-in_ok-append_line
 loop-line-preserved-in_ok-append_line g c =
     let reply = reply_bytes c.in_ok-handled.handled.reply in

@@ -5,7 +5,7 @@ use Rattle.hex.specs.Hex.{lower_digits}
 use Rattle.hex.proofs.HexLemmas.{length-encode_with}
 use Rattle.fw_cli.proofs.serving.append_digits.Goals as goal
 
--- Where the old bytes have grown by room for k digits and a line feed, the digits are put into that room.
+-- If the old bytes have grown by room for k digits and a line feed, the digits are put into that room.
 digits_put : (old seen digits : List ℕ) (k : ℕ) → seen ≡ old ++ replicate (k + 1) 10 → take (length old) seen ++ (digits ++ post_of (length old) k seen) ≡ old ++ (digits ++ 10 ∷ [])
 digits_put old seen digits k room =
     let front : take (length old) seen ≡ old = rw room (take_at old _ (length old) refl) in

@@ -6,7 +6,7 @@ use Rattle.fw_faults.specs.declared.fault.Fault.TheVariants.{OutOfMemory}
 use Rattle.fw_faults.specs.Reading.{Gives, ReadsUntil, max_input}
 use Rattle.fw_faults.proofs.input.read_input.Goals as goal
 
--- how much was read where memory ran out
+-- how much was read if memory ran out
 wanted_after : {T : Type 0} (result : Result T Fault) (before after : Option (List ℕ)) → IsErrAnd result (λ fault. fault ≡ OutOfMemory)
     → Gives before after (λ count. count ≤ max_input) → IfErr result (λ fault. ReadsUntil fault before after)
 wanted_after (Ok value) before after wanted given = tt

@@ -10,7 +10,7 @@ use Rattle.fw_rollout.proofs.Daemons.{none_ended, none_live, over_of}
 use Rattle.fw_rollout.proofs.daemon.HeadDaemon.is_over.Goals as goal
 
 module _ {D : Type 0} (honest : D → Bool) (contents : D → List ℕ) (may_leave : D → List ℕ → Type 0) (daemon : HeadDaemon D) (leader : Leader) (led : IsLed honest contents may_leave daemon leader) where
-  -- no row is live: all is over exactly where nothing waits to be put on the device
+  -- no row is live: all is over exactly if nothing waits to be put on the device
   over_now : All (λ b. b ≡ false) (lives_of daemon.schedule) → (count : ℕ) → length (ended_of daemon) ≡ count → (empty : Bool) → empty ≡ (count == 0) → IsTrue empty ↔ IsOver leader
   over_now none count counted empty is = (
     λ yes. over_of honest contents may_leave daemon leader led none (nil_from_length (ended_of daemon) (counted ∙ (Decides-eqb count 0).0 (sym is ∙ yes))),
@@ -21,7 +21,7 @@ module _ {D : Type 0} (honest : D → Bool) (contents : D → List ℕ) (may_lea
   not_over : (live : ℕ) → ¬ (live ≡ 0) → ((live ≡ 0) ↔ All (λ b. b ≡ false) (lives_of daemon.schedule)) → IsTrue (live == 0) ↔ IsOver leader
   not_over live some counts = (λ yes. absurd (some ((Decides-eqb live 0).0 yes)), λ over. absurd (some (counts.1 (none_live honest contents may_leave daemon leader led over))))
 
--- no link is live, and nothing waits exactly where none ended
+-- no link is live, and nothing waits exactly if none ended
 run_out : {D : Type 0} (daemon : HeadDaemon D) (live count : ℕ) → live ≡ (counts_of daemon).live → live ≡ 0 → length (ended_of daemon) ≡ count → (empty : Bool) → empty ≡ (count == 0)
     → IsTrue empty ↔ HasRunOut daemon
 run_out daemon live count counts none counted empty is = (

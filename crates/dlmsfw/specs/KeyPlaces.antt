@@ -1,0 +1,34 @@
+-- What a fault of the making of keys is about.
+use Rattle.std.specs.Prelude.{◌≡◌, ℕ, List, ◌++◌, Option, None, Some, codes}
+use Rattle.std.specs.Option.{option_map}
+use Rattle.fw_disk.specs.declared.reason.Reason.{Reason}
+use Rattle.fw_faults.specs.declared.fault.Fault.{Fault}
+use Rattle.fw_faults.specs.declared.fault.Fault.TheVariants.{BadList, KeysFault, ListFault}
+use Rattle.fw_key_files.specs.Making.{path_in}
+use Rattle.fw_key_files.specs.declared.owner.Owner.{Owner}
+use Rattle.fw_cli.specs.declared.keys.KeysFailure.{KeysFailure}
+use Rattle.dlmsfw.specs.Refusals.{reason_told}
+use Rattle.dlmsfw.specs.declared.key_places.KeyPlace.{KeyPlace}
+use Rattle.dlmsfw.specs.declared.key_places.KeyPlace.TheVariants.{Made, Meters}
+use Rattle.dlmsfw.specs.declared.key_places.KeyPlaces.{KeyPlaces}
+use Rattle.dlmsfw.specs.declared.refusal.Refusal.{Refusal}
+
+-- the option with its value, and of a file that is made its path behind
+abbrev pub key_place_text : KeyPlace → List ℕ
+key_place_text (Meters file) = codes "--meters " ++ file.now
+key_place_text (Made folder owner) = codes "--out " ++ (folder.now ++ (codes ": " ++ path_in folder.now owner))
+
+-- what this fault is about, where it is a fault of the making of the file of this end
+abbrev pub key_place_in : Fault → Option Owner → KeyPlaces → Option KeyPlace
+key_place_in ListFault owner places = Some (Meters places.meters)
+key_place_in (BadList line) owner places = Some (Meters places.meters)
+key_place_in KeysFault owner places = option_map (λ (end : Owner). Made places.folder end) owner
+key_place_in fault owner places = None
+
+abbrev pub key_place_of : KeysFailure → KeyPlaces → Option KeyPlace
+key_place_of failure places = key_place_in failure.fault failure.owner places
+
+-- of a file that is made the reason is told that stands with the fault
+abbrev pub TellsKeyReason : Option KeyPlace → Option Reason → Option Refusal → Type 0
+TellsKeyReason (Some (Made folder owner)) reason told = told ≡ reason_told reason
+TellsKeyReason place reason told = Unit {0}

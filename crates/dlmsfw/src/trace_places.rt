@@ -1,0 +1,119 @@
+//! What ended a trace, what that is about, and why it is refused.
+
+ghost use Rattle.std.specs.Prelude.{◌≡◌, Some};
+ghost use Rattle.dlmsfw.specs.TracePlaces.{TellsTraceReason, trace_fault_of, trace_place_of, trace_place_text};
+ghost use Rattle.dlmsfw.specs.declared.trace_places.TraceFault.TheVariants.{Ended};
+
+use crate::options::TraceOptions;
+use crate::refusal;
+use crate::refusal::Refusal;
+use fw_disk::Reason;
+use fw_faults::Fault;
+use std::fmt;
+use std::rt::Files;
+
+/// What ended a trace.
+#[derive(Clone, Copy)]
+pub(crate) enum TraceFault {
+    /// The file that has the capture can't be opened, for this reason.
+    Unopened(Reason),
+    /// The command ended so.
+    Ended(Fault),
+}
+
+impl TraceFault {
+    /// The fault that it is.
+    pub(crate) fn fault(self) -> Fault
+        ensures { result ≡ trace_fault_of self }
+    {
+        match self {
+            TraceFault::Unopened(_) => Fault::CaptureFault,
+            TraceFault::Ended(fault) => fault,
+        }
+    }
+}
+
+impl From<Fault> for TraceFault {
+    ghost from_gives = { λ fault ended. ended ≡ Ended fault };
+
+    fn from(fault: Fault) -> TraceFault {
+        TraceFault::Ended(fault)
+    }
+}
+
+/// The files of a trace.
+#[derive(Clone, Copy)]
+pub(crate) struct TracePlaces<'a> {
+    capture: Option<&'a str>,
+    keys: Option<&'a str>,
+    plain: Option<&'a str>,
+}
+
+impl<'a> TracePlaces<'a> {
+    /// Those of these options.
+    pub(crate) fn of(options: &TraceOptions<'a>) -> TracePlaces<'a>
+        ensures capture { result.capture ≡ options.now.capture }
+        ensures keys { result.keys ≡ options.now.keys }
+        ensures plain { result.plain ≡ options.now.plain }
+    {
+        TracePlaces {
+            capture: options.capture,
+            keys: options.keys,
+            plain: options.plain,
+        }
+    }
+}
+
+/// What the fault of a trace is about.
+#[derive(Clone, Copy)]
+pub(crate) enum TracePlace<'a> {
+    /// The file that has the capture.
+    Capture(&'a str),
+    /// The key file.
+    Keys(&'a str),
+    /// The file that gets the capture in plain words.
+    Plain(&'a str),
+}
+
+impl fmt::Display for TracePlace<'_> {
+    ghost output = { λ place. Some (trace_place_text place) };
+
+    fn fmt<W: fmt::Write>(&self, f: &mut fmt::Formatter<W>) -> fmt::Result {
+        match self {
+            TracePlace::Capture(file) => write!(f, "{file}"),
+            TracePlace::Keys(file) => write!(f, "--keys {file}"),
+            TracePlace::Plain(file) => write!(f, "--plain {file}"),
+        }
+    }
+}
+
+/// What the fault of a trace is about, if it is one of its files.
+pub(crate) fn place_of<'a>(ended: TraceFault, places: TracePlaces<'a>) -> Option<TracePlace<'a>>
+    ensures { result ≡ trace_place_of ended places.entry }
+{
+    match ended {
+        TraceFault::Unopened(_) | TraceFault::Ended(Fault::Input) => {
+            Some(TracePlace::Capture(places.capture?))
+        }
+        TraceFault::Ended(Fault::KeysFault | Fault::KeysReadable | Fault::BadKeys(_, _)) => {
+            Some(TracePlace::Keys(places.keys?))
+        }
+        TraceFault::Ended(Fault::CaptureFault) => Some(TracePlace::Plain(places.plain?)),
+        TraceFault::Ended(_) => None,
+    }
+}
+
+/// Why a file of a trace is refused: the reason that stands with the fault. If none does, and the file that has the capture can't be read, the
+/// system is asked.
+pub(crate) fn refusal_of(
+    files: &impl Files,
+    reason: Option<Reason>,
+    place: Option<TracePlace<'_>>,
+) -> Option<Refusal>
+    ensures { TellsTraceReason place.entry reason result }
+{
+    match (place?, reason) {
+        (TracePlace::Capture(path), None) => refusal::of_file(files, path),
+        (_, reason) => refusal::of_reason(reason),
+    }
+}

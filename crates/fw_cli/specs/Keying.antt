@@ -1,0 +1,54 @@
+-- Public vocabulary: what `keys` makes and tells, and its faults.
+use Rattle.std.specs.Prelude.{◌≡◌, ℕ, List, ◌++◌, Option, codes, flat_map, map}
+use Rattle.std.specs.Io.KnownBytes.{Appends}
+use Rattle.fw_faults.specs.declared.fault.Fault.{Fault}
+use Rattle.fw_faults.specs.declared.fault.Fault.TheVariants.{BadList, KeysFault, ListFault, NoRandomness, Output, OutOfMemory}
+use Rattle.fw_host.specs.Lists.{SpellsList}
+use Rattle.fw_key_files.specs.Making.{KeyText, all_owners, owners_of, path_in}
+use Rattle.fw_key_files.specs.declared.owner.Owner.{Owner}
+use Rattle.fw_rollout.specs.declared.link.Listed.{Listed}
+use Rattle.fw_cli.specs.declared.keys.KeysOptions.{KeysOptions}
+
+-- the numbers of the meters of a list, in order
+abbrev pub numbers_of : List Listed → List ℕ
+numbers_of list = map (λ (at : Listed). at.meter) list
+
+-- the line of this end's file
+abbrev pub made_line : List ℕ → Owner → List ℕ
+made_line folder owner = codes "made " ++ (path_in folder owner ++ codes "\n")
+
+-- those of these ends' files
+abbrev pub made_lines : List ℕ → List Owner → List ℕ
+made_lines folder owners = flat_map (λ (owner : Owner). made_line folder owner) owners
+
+-- those of these files
+abbrev pub lines_of : List ℕ → List KeyText → List ℕ
+lines_of folder files = flat_map (λ (file : KeyText). made_line folder file.owner) files
+
+-- some text is a list of meters, and a line was written for the head end's file and for each meter's, in order
+pub record TellsKeys (options : KeysOptions) (before after : Option (List ℕ)) : Type 0 where
+  pub text : List ℕ
+  pub list : List Listed
+  pub spells : SpellsList options.listen text list
+  pub told : Appends before after (made_lines options.folder.now (all_owners (numbers_of list)))
+
+-- some text is a list of meters, and these are the files of the head end and of its meters in order
+pub record IsAsked (options : KeysOptions) (files : List KeyText) : Type 0 where
+  pub text : List ℕ
+  pub list : List Listed
+  pub spells : SpellsList options.listen text list
+  pub owners : owners_of files ≡ all_owners (numbers_of list)
+
+-- of `keys`, before a file is made
+abbrev pub IsOfAsking : Fault → Type 0
+IsOfAsking ListFault = Unit {0}
+IsOfAsking (BadList line) = Unit {0}
+IsOfAsking NoRandomness = Unit {0}
+IsOfAsking OutOfMemory = Unit {0}
+IsOfAsking fault = ⊥
+
+-- of `keys`
+abbrev pub IsOfKeys : Fault → Type 0
+IsOfKeys KeysFault = Unit {0}
+IsOfKeys Output = Unit {0}
+IsOfKeys fault = IsOfAsking fault

@@ -1,0 +1,127 @@
+//! What a daemon seals with, if its options give keys: the links of the file of its keys, and their counters.
+
+ghost use Rattle.std.specs.Prelude.{◌≡◌, IfErr, IfOk, true};
+ghost use Rattle.fw_host.specs.Sealings.{IsOfCounters, IsOfHeadKeys, IsOfMeterKeys};
+ghost use Rattle.fw_cli.specs.Faults.{IsKeyed, MakesCounter};
+ghost use Rattle.fw_cli.specs.Sealing.{AreMade, IsHeadSealing, IsMeterSealing, IsOfCounter, links_in, links_judged, links_of, options_of};
+
+use fw_disk::Because;
+use fw_faults::Fault;
+use fw_host::{Sealing, SealingOptions, check_no_counter, head_links, kept_counters, meter_links};
+use fw_names::HeadId;
+use fw_rollout::Listed;
+use fw_sealport::Links;
+use std::alloc::Global;
+use std::fs::File;
+use std::rt::Files;
+
+/// The links of a daemon, as the file of its keys has them.
+#[derive(Drop)]
+pub(crate) struct Keyed<'a> {
+    options: SealingOptions<'a>,
+    links: Links,
+}
+
+/// The links of a meter, if its options give keys.
+pub(crate) fn keyed_meter<'a, F: Files<File = File>>(
+    rt: &F,
+    alloc: Global,
+    sealing: Option<SealingOptions<'a>>,
+) -> Result<Option<Keyed<'a>>, Because<Fault>>
+    ensures options { IfOk result (λ keyed. options_of keyed ≡ sealing.entry) }
+    ensures links { IfOk result (λ keyed. IsMeterSealing sealing.entry (links_of keyed)) }
+    ensures keyed { IfErr result (λ b. IsKeyed sealing.entry b.error) }
+    ensures faults { IfErr result (λ b. IsOfMeterKeys b.error) }
+{
+    let Some(options) = sealing else {
+        return Ok(None);
+    };
+    let links = meter_links(rt, alloc, &options)?;
+    Ok(Some(Keyed { options, links }))
+}
+
+/// The links of a head end with the meters of its list, if its options give keys.
+pub(crate) fn keyed_head<'a, F: Files<File = File>>(
+    rt: &F,
+    alloc: Global,
+    sealing: Option<SealingOptions<'a>>,
+    head: HeadId,
+    list: &[Listed],
+) -> Result<Option<Keyed<'a>>, Because<Fault>>
+    ensures options { IfOk result (λ keyed. options_of keyed ≡ sealing.entry) }
+    ensures links { IfOk result (λ keyed. IsHeadSealing sealing.entry head list.now (links_of keyed)) }
+    ensures keyed { IfErr result (λ b. IsKeyed sealing.entry b.error) }
+    ensures faults { IfErr result (λ b. IsOfHeadKeys b.error) }
+{
+    let Some(options) = sealing else {
+        return Ok(None);
+    };
+    let links = head_links(rt, alloc, &options, head, list)?;
+    Ok(Some(Keyed { options, links }))
+}
+
+/// What a daemon seals with, once it was judged.
+pub(crate) enum JudgedSealing {
+    /// It has no keys.
+    Plain,
+    /// The file of its counters is there, and has them.
+    Found(Sealing),
+    /// No such file is there. It is made for these links.
+    New(Links),
+}
+
+// Written out, so that letting go of it is one call in a proof. A derived `Drop` is unfolded there field by field, which takes minutes.
+impl Drop for JudgedSealing {
+    fn drop(self) {
+        match self {
+            JudgedSealing::Plain => {}
+            JudgedSealing::Found(_) => {}
+            JudgedSealing::New(_) => {}
+        }
+    }
+}
+
+impl JudgedSealing {
+    /// With these links. Their counters are in the file beside the one at this path. No file is made.
+    pub(crate) fn of<F: Files<File = File> + Eprint>(
+        rt: &F,
+        alloc: Global,
+        path: &str,
+        keyed: Option<Keyed<'_>>,
+    ) -> Result<JudgedSealing, Because<Fault>>
+        ensures links { IfOk result (λ judged. links_judged judged ≡ links_of keyed.entry) }
+        ensures makes { IfOk result (λ judged. AreMade judged → MakesCounter (options_of keyed.entry)) }
+        ensures keyed { IfErr result (λ b. IsKeyed (options_of keyed.entry) b.error) }
+        ensures faults { IfErr result (λ b. IsOfCounter b.error) }
+    {
+        let Some(Keyed { options, links }) = keyed else {
+            return Ok(JudgedSealing::Plain);
+        };
+        if options.makes_counter {
+            check_no_counter(rt, alloc, path)?;
+            return Ok(JudgedSealing::New(links));
+        }
+        let counters = kept_counters(rt, alloc, path, false)?;
+        Ok(JudgedSealing::Found(Sealing { links, counters }))
+    }
+
+    /// With its counters, whose file is made where it isn't there.
+    pub(crate) fn made<F: Files<File = File> + Eprint>(
+        self,
+        rt: &F,
+        alloc: Global,
+        path: &str,
+    ) -> Result<Option<Sealing>, Because<Fault>>
+        ensures links { IfOk result (λ sealing. links_in sealing ≡ links_judged self) }
+        ensures faults { IfErr result (λ b. AreMade self × IsOfCounters true b.error) }
+    {
+        match self {
+            JudgedSealing::Plain => Ok(None),
+            JudgedSealing::Found(sealing) => Ok(Some(sealing)),
+            JudgedSealing::New(links) => {
+                let counters = kept_counters(rt, alloc, path, true)?;
+                Ok(Some(Sealing { links, counters }))
+            }
+        }
+    }
+}

@@ -1,0 +1,135 @@
+-- Public vocabulary: the links and the counter of a daemon whose datagrams are sealed, from its files, and the faults of these.
+use Rattle.std.specs.Prelude.{◌≡◌, ℕ, ◌++◌, List, ◌∷◌, [], All, Contains, Bool, true, false, MatchOption}
+use Rattle.std.specs.declared.net.socket_addr.SocketAddr.{SocketAddr}
+use Rattle.fw_counter.specs.Reserved.{Reserves}
+use Rattle.fw_journal.specs.declared.error.JournalError.{JournalError}
+use Rattle.fw_journal.specs.declared.error.JournalError.TheVariants as journal
+use Rattle.fw_key_files.specs.declared.error.KeyFileError.{KeyFileError}
+use Rattle.fw_key_files.specs.declared.error.KeyFileError.TheVariants as key_file
+use Rattle.fw_keys.specs.declared.entry.Entry.{Entry}
+use Rattle.fw_keys.specs.KeyFiles.{SpellsHeadKeys, SpellsMeterKeys}
+use Rattle.fw_keys.specs.Links.{Links as KeyLinks, HasNoEnd, ends_of}
+use Rattle.fw_rollout.specs.declared.link.Listed.{Listed}
+use Rattle.fw_sealport.specs.Peers.{peer_at}
+use Rattle.fw_sealport.specs.Windows.{Remembers}
+use Rattle.fw_sealport.specs.declared.links.Links.{Links}
+use Rattle.fw_sealport.specs.declared.peer.Peer.{Peer}
+use Rattle.fw_sealport.specs.declared.window.Order.{Order}
+use Rattle.fw_faults.specs.declared.fault.Fault.{Fault}
+use Rattle.fw_faults.specs.declared.fault.Fault.TheVariants.{KeysFault, KeysReadable, BadKeys, NoKey, NoCounter, CounterExists, CounterLocked, CounterFault, NoRandomness, OutOfMemory}
+
+-- ---- links
+
+-- The peer of an end of this name, as a key file has its link. Nothing came from it yet.
+pub record IsPeerOf {N : Type 0} (file : KeyLinks N) (end : N) (peer : Peer) : Type 0 where
+  pub entry : Entry N
+  pub within : Contains file.entries entry
+  pub named : entry.end ≡ end
+  pub link : peer.link ≡ ends_of file.own entry.keys
+  pub none_came : Remembers peer.window []
+
+-- one of these links is with the end of this name
+abbrev pub HasLink : {N : Type 0} → List (Entry N) → N → Type 0
+HasLink {N} entries end = (entry : Entry N) × Contains entries entry × (entry.end ≡ end)
+
+-- Links with just the ends that have an address, each at its address and as a key file has it. What comes is taken in this order.
+pub record AreLinksOf {N : Type 0} (order : Order) (file : KeyLinks N) (HasAddress : N → SocketAddr → Type 0) (links : Links) : Type 0 where
+  pub order_is : links.order ≡ order
+  pub peers : (address : SocketAddr) → MatchOption (peer_at links address) ((end : N) → ¬ HasAddress end address)
+      (λ peer. (end : N) × HasAddress end address × IsPeerOf file end peer)
+
+-- the list has the meter of this number at this address
+abbrev pub IsListedAt : List Listed → ℕ → SocketAddr → Type 0
+IsListedAt list meter address = Contains list (record { meter = meter; address = address })
+
+-- one of these links is with the head end at this address, which is its name
+abbrev pub IsNamed : List (Entry SocketAddr) → SocketAddr → SocketAddr → Type 0
+IsNamed entries end address = (end ≡ address) × HasLink entries end
+
+-- the links of a head end with just the meters of a list, as a text spells them
+pub record HasHeadLinks (order : Order) (head : ℕ) (list : List Listed) (links : Links) : Type 0 where
+  pub text : List ℕ
+  pub file : KeyLinks ℕ
+  pub spells : SpellsHeadKeys text head file
+  pub are : AreLinksOf order file (IsListedAt list) links
+
+-- the links of a meter with all head ends that a text has
+pub record HasMeterLinks (order : Order) (links : Links) : Type 0 where
+  pub text : List ℕ
+  pub file : KeyLinks SocketAddr
+  pub spells : SpellsMeterKeys text file
+  pub are : AreLinksOf order file (IsNamed file.entries) links
+
+-- this meter is the first of a list with which a key file has no link
+pub record IsFirstWithout (file : KeyLinks ℕ) (list : List Listed) (meter : ℕ) : Type 0 where
+  pub before : List Listed
+  pub at : Listed
+  pub behind : List Listed
+  pub are : list ≡ before ++ at ∷ behind
+  pub is_meter : meter ≡ at.meter
+  pub none : HasNoEnd file.entries at.meter
+  pub others : All (λ (other : Listed). HasLink file.entries other.meter) before
+
+-- the key file of a head end is there, and this meter of its list is the first that it has no link with
+abbrev pub LacksKey : ℕ → List Listed → ℕ → Type 0
+LacksKey head list meter = (text : List ℕ) × (file : KeyLinks ℕ) × SpellsHeadKeys text head file × IsFirstWithout file list meter
+
+-- ---- counters
+
+-- every power cut leaves a counter of which nothing is reserved
+abbrev pub LeavesNewCounter : {D : Type 0} → (D → List ℕ → Type 0) → D → Type 0
+LeavesNewCounter may_leave device = (left : List ℕ) → may_leave device left → Reserves left 0
+
+-- ---- the faults
+
+-- the fault that says why a key file wasn't read or made
+abbrev pub fault_of_key_file : KeyFileError → Fault
+fault_of_key_file key_file.KeysFault = KeysFault
+fault_of_key_file key_file.KeysReadable = KeysReadable
+fault_of_key_file (key_file.BadKeys line why) = BadKeys line why
+fault_of_key_file key_file.NoRandomness = NoRandomness
+fault_of_key_file key_file.OutOfMemory = OutOfMemory
+
+-- the fault that says why the file of a counter was not made or opened
+abbrev pub fault_of_counter_file : JournalError → Fault
+fault_of_counter_file (journal.BadBook offset) = CounterFault
+fault_of_counter_file journal.NotEmpty = CounterExists
+fault_of_counter_file journal.TooLong = CounterFault
+fault_of_counter_file journal.Full = CounterFault
+fault_of_counter_file journal.Locked = CounterLocked
+fault_of_counter_file journal.BookFault = CounterFault
+fault_of_counter_file journal.OutOfMemory = OutOfMemory
+
+-- of the key file of a meter
+abbrev pub IsOfMeterKeys : Fault → Type 0
+IsOfMeterKeys KeysFault = Unit {0}
+IsOfMeterKeys KeysReadable = Unit {0}
+IsOfMeterKeys (BadKeys line why) = Unit {0}
+IsOfMeterKeys OutOfMemory = Unit {0}
+IsOfMeterKeys fault = ⊥
+
+-- of a head end
+abbrev pub IsOfHeadKeys : Fault → Type 0
+IsOfHeadKeys (NoKey meter) = Unit {0}
+IsOfHeadKeys fault = IsOfMeterKeys fault
+
+-- of the opening of a counter that is there
+abbrev pub IsOfOldCounter : Fault → Type 0
+IsOfOldCounter NoCounter = Unit {0}
+IsOfOldCounter CounterLocked = Unit {0}
+IsOfOldCounter CounterFault = Unit {0}
+IsOfOldCounter OutOfMemory = Unit {0}
+IsOfOldCounter fault = ⊥
+
+-- of the making of a new one
+abbrev pub IsOfNewCounter : Fault → Type 0
+IsOfNewCounter CounterExists = Unit {0}
+IsOfNewCounter CounterLocked = Unit {0}
+IsOfNewCounter CounterFault = Unit {0}
+IsOfNewCounter OutOfMemory = Unit {0}
+IsOfNewCounter fault = ⊥
+
+-- of a counter that is to be made, or is there
+abbrev pub IsOfCounters : Bool → Fault → Type 0
+IsOfCounters true fault = IsOfNewCounter fault
+IsOfCounters false fault = IsOfOldCounter fault

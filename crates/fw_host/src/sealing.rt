@@ -1,0 +1,177 @@
+//! The links of a daemon whose datagrams are sealed, from its key file.
+
+ghost use Rattle.std.specs.Prelude.{◌≡◌, ℕ, List, IfErr, IfOk};
+ghost use Rattle.fw_key_files.specs.Refusals.{IsOfReading};
+ghost use Rattle.fw_keys.specs.declared.error.BadLine.{BadLine as Why};
+ghost use Rattle.fw_keys.specs.Refusals.{NoHeadKeys, NoMeterKeys};
+ghost use Rattle.fw_host.specs.Sealings.{
+  AreLinksOf,
+  HasHeadLinks,
+  HasMeterLinks,
+  IsFirstWithout,
+  IsListedAt,
+  IsNamed,
+  IsOfHeadKeys,
+  IsOfMeterKeys,
+  LacksKey,
+  fault_of_key_file,
+};
+
+use fw_counter::KeptCounters;
+use fw_disk::Because;
+use fw_faults::Fault;
+use fw_journal::FileDevice;
+use fw_key_files::{KeyFileError, head_keys, meter_keys};
+use fw_keys::KeyFile;
+use fw_names::{HeadId, MeterId};
+use fw_rollout::Listed;
+use fw_sealport::{Links, Order};
+use std::alloc::{AllocError, Global};
+use std::fs::File;
+use std::net::SocketAddr;
+use std::rt::Files;
+
+/// How the datagrams of a daemon are sealed.
+#[derive(Clone, Copy)]
+pub struct SealingOptions<'a> {
+    /// The path of its key file.
+    pub keys: &'a str,
+    /// Whether the file of its counter is to be made. Otherwise it is there.
+    pub makes_counter: bool,
+    /// The order in which the counters of what comes are taken.
+    pub order: Order,
+}
+
+/// What a daemon opens and seals with.
+#[derive(Drop)]
+pub struct Sealing {
+    /// Its links.
+    pub links: Links,
+    /// The counters that it seals with.
+    pub counters: KeptCounters<FileDevice>,
+}
+
+/// The links of the head end of this number with the meters of a list, each at its address, as its key file has them. No other meter of the
+/// file has a link.
+///
+/// # Errors
+///
+/// - `KeysFault`, with its cause if that is known: the file can't be opened or read, is no regular file, or has more than 64 MiB.
+/// - `KeysReadable`: others than its owner may read or write it.
+/// - `BadKeys`: the first line with which it is no key file of this head end, and what is wrong with it.
+/// - `NoKey`: the first meter of the list that the file has no link with.
+/// - `OutOfMemory`.
+pub fn head_links<F: Files<File = File>>(
+    rt: &F,
+    alloc: Global,
+    options: &SealingOptions<'_>,
+    head: HeadId,
+    list: &[Listed],
+) -> Result<Links, Because<Fault>>
+    ensures links { IfOk result (HasHeadLinks options.now.order head list.now) }
+    ensures no_key { IfErr result (λ b. (meter : ℕ) → b.error ≡ Fault.NoKey meter → LacksKey head list.now meter) }
+    ensures bad { IfErr result (λ b. (line : ℕ) (why : Why) → b.error ≡ Fault.BadKeys line why → (text : List ℕ) × NoHeadKeys text head line why) }
+    ensures faults { IfErr result (λ b. IsOfHeadKeys b.error) }
+{
+    let file = match head_keys(rt, alloc, options.keys, head) {
+        Ok(file) => file,
+        Err(because) => return Err(not_read(because)),
+    };
+    match links_with_meters(alloc, &file, options.order, list) {
+        Ok(links) => Ok(links),
+        Err(fault) => Err(Because::from(fault)),
+    }
+}
+
+/// The links of a meter with all head ends of its key file, each at the address that is its name there.
+///
+/// # Errors
+///
+/// As of [`head_links`], but for `NoKey`.
+pub fn meter_links<F: Files<File = File>>(
+    rt: &F,
+    alloc: Global,
+    options: &SealingOptions<'_>,
+) -> Result<Links, Because<Fault>>
+    ensures links { IfOk result (HasMeterLinks options.now.order) }
+    ensures bad { IfErr result (λ b. (line : ℕ) (why : Why) → b.error ≡ Fault.BadKeys line why → (text : List ℕ) × NoMeterKeys text line why) }
+    ensures faults { IfErr result (λ b. IsOfMeterKeys b.error) }
+{
+    let file = match meter_keys(rt, alloc, options.keys) {
+        Ok(file) => file,
+        Err(because) => return Err(not_read(because)),
+    };
+    match links_with_heads(alloc, &file, options.order) {
+        Ok(links) => Ok(links),
+        Err(_) => Err(Because::from(Fault::OutOfMemory)),
+    }
+}
+
+/// The links of a key file with the meters of a list.
+fn links_with_meters(
+    alloc: Global,
+    file: &KeyFile<MeterId>,
+    order: Order,
+    list: &[Listed],
+) -> Result<Links, Fault>
+    ensures links { IfOk result (AreLinksOf order file.now (IsListedAt list.now)) }
+    ensures no_key { IfErr result (λ f. (meter : ℕ) → f ≡ Fault.NoKey meter → IsFirstWithout file.now list.now meter) }
+    ensures no_line { IfErr result (λ f. (line : ℕ) (why : Why) → ¬ (f ≡ Fault.BadKeys line why)) }
+    ensures faults { IfErr result IsOfHeadKeys }
+{
+    let mut links = Links::new(alloc, order);
+    for at in list {
+        let Some(link) = file.link_with(&at.meter) else {
+            return Err(Fault::NoKey(at.meter.number()));
+        };
+        links.add(at.address, link)?;
+    }
+    Ok(links)
+}
+
+/// The links of a key file with all head ends that it has.
+fn links_with_heads(
+    alloc: Global,
+    file: &KeyFile<SocketAddr>,
+    order: Order,
+) -> Result<Links, AllocError>
+    ensures { IfOk result (AreLinksOf order file.now (IsNamed file.now.entries)) }
+{
+    let mut links = Links::new(alloc, order);
+    for entry in file.entries() {
+        let head = *entry.end();
+        match file.link_with(&head) {
+            Some(link) => links.add(head, link)?,
+            // The entry is one of the file's.
+            None => unreachable!(),
+        }
+    }
+    Ok(links)
+}
+
+/// The fault that the refusal of a key file is, with its reason.
+fn not_read(because: Because<KeyFileError>) -> Because<Fault>
+    requires { IsOfReading because.error }
+    ensures error { result.error ≡ fault_of_key_file because.error }
+    ensures reason { result.reason ≡ because.reason }
+    ensures of_meter { IsOfMeterKeys result.error }
+    ensures of_head { IsOfHeadKeys result.error }
+{
+    Because {
+        error: fault_of_key_file(because.error),
+        reason: because.reason,
+    }
+}
+
+/// The fault that says why a key file wasn't read or made.
+pub fn fault_of_key_file(error: KeyFileError) -> Fault
+    ensures { result ≡ fault_of_key_file error }
+{
+    match error {
+        KeyFileError::KeysFault => Fault::KeysFault,
+        KeyFileError::KeysReadable => Fault::KeysReadable,
+        KeyFileError::BadKeys(line, why) => Fault::BadKeys(line, why),
+        KeyFileError::NoRandomness => Fault::NoRandomness,
+        KeyFileError::OutOfMemory => Fault::OutOfMemory,
+    }
+}

@@ -1,0 +1,3 @@
+mod Opened
+mod BothEnds
+mod Forms
