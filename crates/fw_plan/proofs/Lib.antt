@@ -2,4 +2,6 @@ mod Campaigns
 mod Contacts
 mod Gates
 mod Lists
+mod Numbers
+mod Parts
 mod Serials

@@ -3,5 +3,6 @@ pub mod Waves
 pub mod Window
 pub mod Silence
 pub mod Openings
+pub mod Ranges
 -- For private clauses alone: no public clause cites it.
 pub mod Private

@@ -1,9 +1,9 @@
 -- For private clauses alone: what the steps of loops make.
-use Rattle.std.specs.Prelude.{◌≡◌, ℕ, ◌+◌, ◌-◌, Bool, true, false, ◌<◌, ◌≤◌, ◌^◌, nat_le, Option, Some, None, SomeIff, if◌then◌else◌}
+use Rattle.std.specs.Prelude.{◌≡◌, ℕ, ◌+◌, ◌-◌, Bool, true, false, ◌<◌, ◌≤◌, ◌^◌, nat_le, Option, Some, None, SomeIff, MatchOption, if◌then◌else◌}
 use Rattle.fw_book.specs.Contents.{Contents, has_serial}
 use Rattle.fw_book.specs.Rows.{is_live}
 use Rattle.fw_plan.specs.declared.gate.WaveRow.{WaveRow}
-use Rattle.fw_plan.specs.Openings.{NoneFree}
+use Rattle.fw_plan.specs.Openings.{IsNextFree, NoneFree}
 
 -- the wave of a row, if it is live
 abbrev pub wave_of : WaveRow → Option ℕ → Option ℕ
@@ -38,3 +38,13 @@ IsReached book serial (Some free) = AreUsedTo book serial free
 abbrev pub left_from : Option ℕ → ℕ
 left_from None = 0
 left_from (Some serial) = 2 ^ 32 - serial
+
+-- the first free number from one on, if that one is there
+abbrev pub IsNextFrom : Contents → Option ℕ → Option ℕ → Type 0
+IsNextFrom book None free = free ≡ None
+IsNextFrom book (Some serial) free = MatchOption free (NoneFree book serial) (λ n. IsNextFree book serial n)
+
+-- the next number to look at is the one behind the last, if it has 32 bits
+abbrev pub IsBehind : Option ℕ → ℕ → Type 0
+IsBehind None last = last ≡ 2 ^ 32
+IsBehind (Some next) last = (next ≡ last) × (next < 2 ^ 32) × (1 ≤ next)

@@ -1,9 +1,11 @@
 //! What decides in a rollout: waves, windows, silent meters, and what a list lacks.
 
-use crate::book::{after, image, meters};
+use crate::book::{after, image, meter, meters};
 use fw_book::{Book, RowState};
+use fw_names::MeterId;
 use fw_plan::{
-    Contact, Deadline, MaxFailed, WaveRow, Window, gate_of, is_over, lacking, next_free, unlisted,
+    Contact, Deadline, MaxFailed, SerialRange, WaveRow, Window, gate_of, is_over, lacking,
+    missing_parts, next_free, serials_of, unlisted,
 };
 use std::alloc::Global;
 use std::test::Fail;
@@ -18,6 +20,9 @@ use test_tables::{Reads, Words, each_part};
 /// - `lacking SERIAL RELEASE IMAGE METER..; CALLS`: which of the meters lack a row in the book after these calls, as `crate::book` has them
 /// - `free SERIAL; CALLS`: the next serial number that is free
 /// - `unlisted METER..; CALLS`: the live rows whose meter isn't one of these
+/// - `parts SERIAL RELEASE IMAGE METER..; CALLS`: the campaigns that lack, each with how many meters it has and the first of them
+/// - `many SERIAL COUNT; CALLS`: those of release 0 and image `abc` for the meters 1 to COUNT
+/// - `serials RANGE..; CALLS`: which campaigns these name, where `7` is one and `7-9` a range
 #[derive(Clone, Copy)]
 struct Plans;
 
@@ -142,8 +147,60 @@ fn book_text(alloc: Global, how: &str, mut words: Words<'_>, book: &Book) -> Res
             }
             Ok(format!(in alloc; "{:?}", rows.as_slice())?)
         }
+        "parts" => {
+            let (serial, release, word): (u32, u32, &str) = words.read()?;
+            let list = meters(alloc, words.rest())?;
+            parts_text(alloc, book, serial, release, word, &list)
+        }
+        "many" => {
+            let (serial, count): (u32, u32) = words.read()?;
+            parts_text(alloc, book, serial, 0, "abc", &counted(alloc, count)?)
+        }
+        "serials" => serials_text(alloc, book, words.rest()),
         _ => Err("a plan has nothing of this name".into()),
     }
+}
+
+/// The campaigns that lack: the serial number of each, how many meters it has, and the first of them.
+fn parts_text(
+    alloc: Global,
+    book: &Book,
+    serial: u32,
+    release: u32,
+    word: &str,
+    list: &[MeterId],
+) -> Result<String, Fail> {
+    let parts = match missing_parts(alloc, book, serial, release, image(word), list) {
+        Ok(parts) => parts,
+        Err(error) => return Ok(format!(in alloc; "{error}")?),
+    };
+    let mut shown = Vec::new(alloc);
+    for part in &parts {
+        let first = part.meters.first().map(|meter| meter.number());
+        shown.push((part.serial, part.meters.len(), first.unwrap_or(0)))?;
+    }
+    Ok(format!(in alloc; "{:?}", shown.as_slice())?)
+}
+
+/// The meters 1 to COUNT.
+fn counted(alloc: Global, count: u32) -> Result<Vec<MeterId>, Fail> {
+    let mut list = Vec::new(alloc);
+    for number in 1..=count {
+        list.push(meter(number)?)?;
+    }
+    Ok(list)
+}
+
+fn serials_text(alloc: Global, book: &Book, text: &str) -> Result<String, Fail> {
+    let mut named = Vec::new(alloc);
+    for word in text.split(' ') {
+        named.push(match word.split_once('-') {
+            Some((first, last)) => SerialRange::Span(first.parse::<u32>()?, last.parse::<u32>()?),
+            None => SerialRange::One(word.parse::<u32>()?),
+        })?;
+    }
+    let serials = serials_of(alloc, book, &named)?;
+    Ok(format!(in alloc; "{:?}", serials.as_slice())?)
 }
 
 /// A later wave waits until the earlier ones ended, and for good where too many of their rows failed. Cancelled rows didn't fail.
@@ -229,11 +286,38 @@ const UNLISTED: &str = "
     unlisted 1; open 7 5 0 abc 1; cancel 7 5                         => []
 ";
 
+/// 256 meters at most go into one campaign. Serial numbers that are used are passed over.
+const PARTS: &str = "
+    parts 3 0 abc 3 1 2;                                  => [(3, 3, 3)]
+    parts 3 0 abc 3 1 2; open 7 3 0 abc 1                 => [(4, 2, 3)]
+    parts 3 0 abc 3 1 2; open 7 3 0 abd 4                 => [(4, 3, 3)]
+    parts 3 0 abc 3 1; open 7 5 0 abc 1 3                 => []
+    parts 3 0 abc;                                        => []
+    parts 0 0 abc 1;                                      => NoSerial
+    many 3 256;                                           => [(3, 256, 1)]
+    many 3 257;                                           => [(3, 256, 1), (4, 1, 257)]
+    many 3 600; open 7 4 0 abd 9                          => [(3, 256, 1), (5, 256, 257), (6, 88, 513)]
+    many 3 600; open 7 4 0 abc 9                          => [(3, 256, 1), (5, 256, 258), (6, 87, 514)]
+    many 4294967294 512;                                  => [(4294967294, 256, 1), (4294967295, 256, 257)]
+    many 4294967294 513;                                  => NoSerial
+    many 4294967295 256; open 7 4294967295 0 abd 9        => NoSerial
+";
+
+/// A number stands for itself, and a range for the campaigns in it that have a live row.
+const SERIALS: &str = "
+    serials 7 9-12; open 7 9 0 abc 1; open 7 12 0 abc 2; open 7 13 0 abc 3             => [7, 9, 12]
+    serials 9-12; open 7 12 0 abc 2; open 7 9 0 abc 1; open 7 10 0 abc 3; fail 7 10 3  => [12, 9]
+    serials 12-9; open 7 10 0 abc 1                                                    => []
+    serials 8 8;                                                                       => [8, 8]
+";
+
 #[test]
 fn rollouts_are_decided(rt: HostRuntime) -> Result<(), Fail> {
     each_part(
         rt.alloc(),
         &mut Plans,
-        &[GATES, WINDOWS, SILENCES, LACKING, FREE, UNLISTED],
+        &[
+            GATES, WINDOWS, SILENCES, LACKING, FREE, UNLISTED, PARTS, SERIALS,
+        ],
     )
 }
