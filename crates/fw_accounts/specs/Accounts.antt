@@ -29,8 +29,8 @@ IsRising receipts =
 abbrev pub ticks_of : ℕ → ℕ → List Receipt → ℕ
 ticks_of head meter receipts = count_by (λ (receipt : Receipt). is_tick head meter receipt.event) receipts
 
--- Link j is dealt to worker j modulo the number of workers. A worker makes as many ticks of a link as there are rounds where the link is
--- dealt to it, and else none.
+-- Link j is dealt to worker j modulo the number of workers. A worker makes as many ticks of a link as there are rounds if the link is dealt
+-- to it, and none of any other link.
 abbrev pub its_ticks : ℕ → ℕ → ℕ → ℕ → ℕ
 its_ticks rounds workers worker j = if j % workers == worker then rounds else 0
 

@@ -49,7 +49,8 @@ impl Stub {
     }
 }
 
-/// A log under a lock. Whenever the lock is free, the numbers of datagrams that the events added sum to how many were sent.
+/// A log under a lock, for which its calls may wait. Whenever the lock is free, the numbers of datagrams that the events added sum to how
+/// many were sent.
 #[derive(Drop)]
 pub struct SharedLog {
     log: Mutex<Log>,

@@ -4,7 +4,7 @@ use Rattle.std.specs.Ordering.{nat_cmp}
 use Rattle.std.specs.FinMap.{FinMap, empty, get, insert, remove}
 use Rattle.fw_client.specs.declared.ask.Asked.{Asked}
 
--- the asks that no answer came to yet, by their invoke-ids
+-- the asks that no answer came to yet, by their invoke-ids: no reuse of an invoke-id while its ask waits
 abbrev pub Asks : Type 0
 Asks = FinMap nat_cmp Asked
 

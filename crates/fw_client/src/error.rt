@@ -10,7 +10,7 @@ use thiserror::Error;
 /// The refusals of `Client::ask`. If both would apply, the first comes.
 #[derive(Clone, Copy, Debug, Error)]
 pub enum AskError {
-    /// The next invoke-id is that of an outstanding ask.
+    /// The next invoke-id is that of an outstanding ask: there is no reuse of an invoke-id while its ask waits.
     AllBusy,
     /// Memory was refused.
     OutOfMemory,

@@ -20,7 +20,7 @@ pub record IsUnserved (old : Daemon) (from : SocketAddr) (datagram : List ℕ) (
   pub silent : reply ≡ None
   pub counted : new ≡ record old { unserved = one_more old.unserved }
 
--- a stranger's datagram is counted, and else the meter goes on as if nothing had come
+-- a stranger's datagram is counted, and the meter goes on as if nothing had come
 pub record IsStrange (old : Daemon) (from : SocketAddr) (reply : Option (List ℕ)) (new : Daemon) : Type 0 where
   pub may_not : MayAsk old.heads from → ⊥
   pub silent : reply ≡ None
@@ -33,7 +33,7 @@ Takes old from datagram reply new =
 
 -- What was done, the newest first, is what a daemon does that was as start and is as now. A datagram that it sent is its reply to the
 -- one that came just before, and goes to where that came from. One after which none was sent has no reply. If nothing came, the meter
--- took a turn. It does nothing else.
+-- took a turn. It does nothing else. Its loop may wait for ever, and is held to this all the while.
 abbrev pub Serving : Daemon → List Act → Daemon → Type 0
 Serving start [] now = now ≡ start
 Serving start (quiet ∷ done) now = (before : Daemon) × Serving start done before × TakesTurn before now

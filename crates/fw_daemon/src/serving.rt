@@ -78,7 +78,7 @@ pub fn step<P: Port<NoReport>, S: ImageStore + Drop>(
     }
 }
 
-/// Serves until the port is closed.
+/// Serves until the port is closed. It may wait for ever.
 pub fn serve<R: Wait, P: Port<NoReport>, S: ImageStore + Drop, W: Watch>(
     rt: &R,
     alloc: Global,

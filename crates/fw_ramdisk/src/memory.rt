@@ -110,7 +110,7 @@ impl MemoryFolder {
     /// One of the folders that a power cut may leave, behind so many moments. Each of them takes the next fate, and an empty one if there
     /// are no more. A write leaves its fate's bytes in the front of its range, and what was there in the rest; a clearing as many bytes as
     /// its fate has; a creation, a renaming and a removal leave FILE, FILE.new and FILE.journal as after it if the first, the second and
-    /// the third byte isn't 0, and else as before. A sync leaves what is read, whatever was left before it.
+    /// the third byte isn't 0, and as before if it is. A sync leaves what is read, whatever was left before it.
     ///
     /// # Errors
     ///

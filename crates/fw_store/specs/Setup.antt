@@ -4,7 +4,7 @@ use Rattle.fw_blocks.specs.Cuts.{max_block_size}
 use Rattle.fw_store.specs.Versions.{block_limit}
 use Rattle.fw_store.specs.declared.version.HeaderVersion.{HeaderVersion}
 
--- the largest image, in bytes: 16,384 of the largest blocks
+-- the largest image, in bytes: 16 MiB, which is 16,384 of the largest blocks
 abbrev pub max_capacity : ℕ
 max_capacity = 16777216
 

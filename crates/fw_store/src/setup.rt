@@ -12,7 +12,7 @@ use crate::version::{HeaderBytes, HeaderVersion};
 use fw_blocks::MAX_BLOCK_SIZE;
 use fw_names::factory_name;
 
-/// The largest image, in bytes: 16,384 of the largest blocks.
+/// The largest image, in bytes: 16 MiB, which is 16,384 of the largest blocks.
 pub const MAX_CAPACITY: u32 = 16_777_216;
 
 /// Whether a store with a header of this version can be made with slots of `capacity` bytes, blocks of `block_size`, and this factory image,

@@ -50,7 +50,7 @@ pub record Leaves (w : Write) (file left : List ℕ) : Type 0 where
   pub last_cut : IsCutAtEnd w.last_at last w.last_before w.last_after
   pub stands : left ≡ replaced file w.at front w.last_at last
 
--- what stands in the places of the parts may be what a cut left, and is not what was to be written: so it is of a header whose marks are torn
+-- what stands in the places of the parts may be what a cut left, and is not what was to be written: so it is of a torn header
 pub record IsTorn (w : Write) (front last : List ℕ) : Type 0 where
   pub front_cut : IsCut w.at front w.before w.after
   pub last_cut : IsCutAtEnd w.last_at last w.last_before w.last_after

@@ -144,8 +144,8 @@ impl<'a> HeaderWrite<'a> {
         })
     }
 
-    /// Whether a power cut in the write may have left these bytes in the places of its parts, and they aren't those after the write: each
-    /// sector is the one before the write or the one after it. `now` has as many bytes as the first part.
+    /// Whether this is a torn header: a power cut in the write may have left these bytes in the places of its parts, and they aren't those
+    /// after the write, so each sector is the one before the write or the one after it. `now` has as many bytes as the first part.
     pub fn is_torn(&self, now: &[u8], last_now: &[u8]) -> bool
         requires write { IsWrite self.now }
         requires size { length now.now ≡ length self.now.before }

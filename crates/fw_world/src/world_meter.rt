@@ -264,7 +264,7 @@ fn new_store(
     }
 }
 
-/// Room for the image that a meter may switch to: as many bytes as it has where it was verified, and else none.
+/// Room for the image that a meter may switch to: as many bytes as it has if it is verified, and none if not.
 fn room_for(alloc: Global, core: &MeterCore<MemoryStore>) -> Result<Vec<u8>, OutOfMemory>
     ensures room { IfOk result (λ room. HasRoom core.now.meter room.items) }
     ensures fits { IsFit core.now.meter }

@@ -63,8 +63,7 @@ impl Reads for Found {
 }
 
 /// Either byte of the first part is in a sector of its own. If the file has its new length already, a zero stands for what isn't written.
-/// What is torn here is found as a header whose marks are torn is. Before the write the parts are `ab` and nothing, and after it `cd` and
-/// `e`.
+/// What is torn here is found as a torn header is. Before the write the parts are `ab` and nothing, and after it `cd` and `e`.
 const FOUND: &str = "
     6162      => torn
     6164      => torn

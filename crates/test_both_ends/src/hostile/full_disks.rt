@@ -77,7 +77,7 @@ fn reads_of(alloc: Global, reads: &[Vec<u8>], file: &[u8]) -> Result<Vec<u8>, Fa
 }
 
 /// The operation of this line, between these files, with room for each number of bytes up to those that it writes. The meter is as before
-/// where that doesn't suffice, and else as after it.
+/// if that doesn't suffice, and as after it if it does.
 fn on_full_disks(alloc: Global, line: &str, before: &[u8], after: &[u8]) -> Result<usize, Fail> {
     let (names, numbers) = present(line.split_once(':'), "names and numbers")?;
     let [start, end, writes]: [u32; 3] = Words::new(numbers).read()?;
@@ -104,7 +104,7 @@ fn on_full_disks(alloc: Global, line: &str, before: &[u8], after: &[u8]) -> Resu
     Ok(tried)
 }
 
-/// The file after an operation with so much room. It is done where that suffices, and else has the reply of a fault.
+/// The file after an operation with this much room. It is done if that suffices, and has the reply of a fault if not.
 fn left_by(
     alloc: Global,
     names: &str,
