@@ -90,12 +90,6 @@ def preloaded(library, **settings):
     return {**os.environ, "LD_PRELOAD": str(library), **{name: str(value) for name, value in settings.items()}}
 
 
-def without_counter_notes(said):
-    """The lines of a meter's standard error, except those of records behind the shut gate of its counter's file: a meter with keys that is
-    killed while it reserves numbers leaves such a record."""
-    return [line for line in said.splitlines() if not re.fullmatch(r"\d+ records? behind a shut gate .*\.counter\.dropped(\.\d+)?", line)]
-
-
 class Meter:
     """A meter in a process of its own."""
 
@@ -109,8 +103,8 @@ class Meter:
         if not found:
             status = self.process.wait(LONG) if not first else None
             self.process.kill()
-            said = without_counter_notes(self.process.communicate()[1])
-            if (status, said) == (-signal.SIGKILL, []):
+            said = self.process.communicate()[1]
+            if (status, said) == (-signal.SIGKILL, ""):
                 raise Killed
             raise Failed(f"the first line is {first!r}, it ended with {status}, and it says {said!r}")
         self.address = (found[1] or found[2], int(found[3]))
@@ -123,10 +117,10 @@ class Meter:
         self.process.kill()
         status = self.process.wait()
         self.reader.join()
-        said = without_counter_notes(self.process.stderr.read())
+        said = self.process.stderr.read()
         self.process.stdout.close()
         self.process.stderr.close()
-        wants((status, said) == (-signal.SIGKILL, []), f"the meter ended with {status} and {said!r}")
+        wants((status, said) == (-signal.SIGKILL, ""), f"the meter ended with {status} and {said!r}")
         return self.lines
 
     @contextlib.contextmanager
@@ -237,6 +231,30 @@ def status_of(folder, form):
                           timeout=60, check=False)
     wants(made.returncode == 0, f"status ends with {made}")
     return made.stdout
+
+
+def fields_of(folder):
+    """The rows that `status` prints of the book in a folder, by their columns. Each has the time of its opening, one that is done or failed that
+    of its end, both of the last day, and a failed one its reason."""
+    headings, *lines = status_of(folder, "csv").splitlines()
+    wants(headings == "head,campaign,meter,state,opened,ended,reason", f"status has the headings {headings}")
+    rows = [line.split(",") for line in lines]
+    for *_, state, opened, ended, reason in rows:
+        told = opened.isdigit(), ended.isdigit(), reason != ""
+        wants(told == (True, state in ("done", "failed"), state == "failed"), f"status prints {lines}")
+        wants(time.time() - 86400 < int(opened) <= int(ended or opened) <= time.time(), f"status prints {lines}")
+    return rows
+
+
+def rows_of(folder):
+    """The rows of the book in a folder with their states, as `7,1,1,done`."""
+    return [",".join(row[:4]) for row in fields_of(folder)]
+
+
+def ended_rows(folder):
+    """The rows of the book in a folder that are done or failed, as a head end tells them: `row 7 1 1 failed: start code 250 other-reason`."""
+    rows = [(" ".join(["row", *row[:4]]), row[3], row[6]) for row in fields_of(folder)]
+    return [f"{line}: {reason}" if reason else line for line, state, reason in rows if state in ("done", "failed")]
 
 
 class Fleet:

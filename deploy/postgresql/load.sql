@@ -5,11 +5,12 @@
 -- A row that ended never changes again, so a report that is older than what is there changes nothing of it.
 \set ON_ERROR_STOP on
 begin;
-create temporary table reported (head bigint, campaign bigint, meter bigint, state text) on commit drop;
+create temporary table reported (head bigint, campaign bigint, meter bigint, state text, opened bigint, ended bigint, reason text)
+    on commit drop;
 \copy reported from pstdin with (format csv, header match)
-insert into results (shard, campaign, meter, state)
-    select head, campaign, meter, state from reported
+insert into results (shard, campaign, meter, state, opened_at, ended_at, reason)
+    select head, campaign, meter, state, to_timestamp(opened), to_timestamp(ended), reason from reported
 on conflict (shard, campaign, meter) do update
-    set state = excluded.state, read_at = now()
+    set state = excluded.state, opened_at = excluded.opened_at, ended_at = excluded.ended_at, reason = excluded.reason, read_at = now()
     where results.state = 'live';
 commit;

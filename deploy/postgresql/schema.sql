@@ -45,6 +45,10 @@ create table results (
     campaign bigint not null,
     meter bigint not null references meters,
     state text not null check (state in ('live', 'done', 'failed', 'cancelled')),
+    -- When its campaign was opened, when it ended, and why it failed, as far as the book knows.
+    opened_at timestamptz,
+    ended_at timestamptz,
+    reason text,
     read_at timestamptz not null default now(),
     primary key (shard, campaign, meter)
 );

@@ -37,6 +37,8 @@ def wrong(state, may_be):
         held = book.read(files[BOOK]) if BOOK in files else None
     except book.NoBook as why:
         return str(why)
+    if held is not None and not book.is_noted(files[BOOK]):
+        return f"it lacks notes of {held}"
     return None if may_be(held) else f"it has {held}"
 
 

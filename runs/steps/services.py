@@ -1,11 +1,13 @@
 """Head ends and meters as services: started again, cancelled, refused, on a full disk, and several in one process."""
 
 import hashlib
+import pathlib
+import re
 import resource
 import signal
 
 from common import HOST, PATIENCE, Failed, Head, Members, bound, comes_in, listed, name_of, received, stays_silent, wants
-from ends import ANSWERS_FAULT, GET_STATUS, SET_ENABLED, STATUS, Fleet, HeadEnd, opening, status_of
+from ends import ANSWERS_FAULT, GET_STATUS, SET_ENABLED, STATUS, Fleet, HeadEnd, opening, rows_of
 from ports import PATIENT, full_disk
 
 # What a SET gets that was done, and a GET of image_transfer_enabled that gets false.
@@ -64,10 +66,12 @@ def a_campaign_is_cancelled(place):
         received(last)
         stays_silent(first, seconds=0)
     rows = [f"7,1,{number},cancelled" for number in range(1, 257)]
-    wants(status_of(place.folder, "csv").splitlines()[1:] == [*rows, "7,2,257,live"], "status has other rows once a campaign is cancelled")
+    wants(rows_of(place.folder) == [*rows, "7,2,257,live"], "status has other rows once a campaign is cancelled")
     lines = HeadEnd(place.folder, "--cancel", "2").over(patience=PATIENCE)
     wants(lines[1:] == ["cancelled 7 2", "over done 0 failed 0"], f"it prints {lines}")
-    wants(status_of(place.folder, "csv").splitlines()[1:] == [*rows, "7,2,257,cancelled"], "status has other rows once both are cancelled")
+    wants(rows_of(place.folder) == [*rows, "7,2,257,cancelled"], "status has other rows once both are cancelled")
+    # A start writes the book anew, with a campaign's cancelling before its notes. From then on it stays as it is.
+    HeadEnd(place.folder).over(patience=PATIENCE)
     refused(place, "NotLive", "--cancel 1", "--cancel", "1")
 
 
@@ -133,7 +137,7 @@ def a_meter_on_a_full_disk(place):
             wants(head.ask(fleet.meters[1], SET_ENABLED) == ANSWERS_FAULT, "a SET that can't be written is done")
             wants(head.ask(fleet.meters[1], GET_STATUS) == STATUS % 0, "the meter doesn't go on")
             lines = HeadEnd(place.folder, "--new", *opening(place.folder, image)).over()
-            wants(lines[2:] == ["row 7 1 1 failed", "over done 0 failed 1"], f"on the full disk it prints {lines}")
+            wants(lines[2:] == ["row 7 1 1 failed: enable code 1 hardware-fault", "over done 0 failed 1"], f"on the full disk it prints {lines}")
         fleet.restart(1)
         process = fleet.meters[1].process
         # The SET left nothing: transfer isn't enabled.
@@ -144,6 +148,29 @@ def a_meter_on_a_full_disk(place):
         with full_disk(process):
             wants(head.ask(fleet.meters[1], SET_ENABLED) == ANSWERS_FAULT, "later a SET that can't be written is done")
         wants(head.ask(fleet.meters[1], SET_ENABLED) == SET_DONE, "with room again a SET isn't done")
+
+
+def written(process):
+    """How many bytes a process has written so far (proc(5), wchar)."""
+    return int(re.search(r"wchar: (\d+)", pathlib.Path(f"/proc/{process.pid}/io").read_text())[1])
+
+
+# To be seen: a store whose opening could write nothing, and that takes its bytes for synced all the same.
+def a_store_is_written_again(place):
+    """A meter whose disk is full as it starts listens, and its next header write, and no other, begins with writing all of FILE again."""
+    signal.pthread_sigmask(signal.SIG_BLOCK, [signal.SIGXFSZ])
+    with Fleet(place.folder, 1).killed() as fleet:
+        head, size = Head(), (place.folder / "1.fw").stat().st_size
+        limit = resource.getrlimit(resource.RLIMIT_FSIZE)
+        resource.setrlimit(resource.RLIMIT_FSIZE, (0, limit[1]))
+        fleet.restart(1)
+        resource.setrlimit(resource.RLIMIT_FSIZE, limit)
+        process = fleet.meters[1].process
+        resource.prlimit(process.pid, resource.RLIMIT_FSIZE, limit)
+        for all_of_it in (True, False):
+            before = written(process)
+            wants(head.ask(fleet.meters[1], SET_ENABLED) == SET_DONE, "with room a SET isn't done")
+            wants((written(process) - before >= size) == all_of_it, f"a SET writes {written(process) - before} of {size} bytes")
 
 
 # To be seen: a head end that tells a row which the disk doesn't have, or goes on; a book that takes what isn't written for written.
@@ -161,7 +188,7 @@ def a_head_end_on_a_full_disk(place):
                 status, lines, said = head.end()
         wants((status, lines, said[:1]) == (1, [], ["dlmsfw: BookFault"]), f"it ends with {status}, {lines} and {said}")
         wants(begins(said[1], f"--book {book}"), f"it says {said}")
-        wants(status_of(place.folder, "csv").splitlines()[1:] == ["7,1,1,live"], "the row isn't live")
+        wants(rows_of(place.folder) == ["7,1,1,live"], "the row isn't live")
         lines = HeadEnd(place.folder).over()
         wants(lines[1:] == ["row 7 1 1 done", "over done 1 failed 0"], f"with room it prints {lines}")
 
@@ -204,6 +231,7 @@ STEPS = [
     a_campaign_is_cancelled,
     a_head_end_is_refused,
     a_meter_on_a_full_disk,
+    a_store_is_written_again,
     a_head_end_on_a_full_disk,
     makings_on_a_full_disk,
     each_of_a_fleet_has_its_own,

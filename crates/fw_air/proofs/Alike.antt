@@ -11,7 +11,7 @@ use Rattle.std.proofs.lemmas.Map.Entries.{lookup_head, lookup_tail, lookup_from_
 use Rattle.std.proofs.lemmas.Option.{slice_get-get_or}
 use Rattle.fw_book.specs.declared.row.RowState.TheVariants as state
 use Rattle.fw_book.specs.Contents.{Contents, state_in}
-use Rattle.fw_head.specs.declared.phase.Phase.{Phase}
+use Rattle.fw_book.specs.declared.phase.Phase.{Phase}
 use Rattle.fw_head.specs.Head.{Head, IsHead, Rows, AreRowsOf, row_of}
 use Rattle.fw_head.specs.Phase.{phase_of}
 use Rattle.fw_head.specs.Row.{Row}

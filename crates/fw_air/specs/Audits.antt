@@ -2,7 +2,7 @@
 use Rattle.std.specs.Prelude.{◌≡◌, ◌≢◌, ◌⊎◌, ℕ, List, Option, take}
 use Rattle.std.specs.List.{AllZip}
 use Rattle.std.specs.Option.{option_map}
-use Rattle.fw_head.specs.declared.phase.Phase.{Phase}
+use Rattle.fw_book.specs.declared.phase.Phase.{Phase}
 use Rattle.fw_head.specs.Head.{Head, row_of}
 use Rattle.fw_head.specs.Phase.{phase_of}
 use Rattle.fw_image.specs.Meter.{Meter}

@@ -7,3 +7,4 @@ pub mod Images
 pub mod Walks
 pub mod States
 pub mod Busy
+mod Noted

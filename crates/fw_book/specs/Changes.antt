@@ -43,7 +43,7 @@ marked book serial meter state =
 abbrev pub cancelled : Contents → ℕ → Contents
 cancelled book serial = record { head = book.head; campaigns = at_serial serial cancelled_rows book.campaigns }
 
--- the refusals of an opening, each with its test, in the order in which they count
+-- an opening's refusals, each with its test, in the order in which they count
 abbrev pub opening_rows : Contents → Campaign → List ℕ → List ℕ → List (Bool × BookError)
 opening_rows book campaign image meters =
     (not (campaign.head == book.head), ForeignHead)

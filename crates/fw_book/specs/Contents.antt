@@ -19,7 +19,7 @@ pub record Contents : Type 0 where
   pub head : ℕ
   pub campaigns : List (ℕ × Offered)
 
--- the most bytes that an image can have (own limit)
+-- the most bytes that an image can have: 16 MiB (own limit)
 abbrev pub max_image : ℕ
 max_image = 16777216
 

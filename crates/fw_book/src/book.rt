@@ -179,7 +179,7 @@ impl Book {
         Ok(name)
     }
 
-    /// What an opening is refused for, apart from memory: it is then the book's first refusal.
+    /// The first of an opening's refusals that applies, apart from memory.
     ///
     /// # Errors
     ///

@@ -1,6 +1,7 @@
 //! Laws of a book, over the definitions alone.
 
 ghost use Rattle.fw_book.specs.Laws.{OneBook, OneReading, ImagesStay, OpeningOffers, StatesFollowCalls, AdmittedOpens};
+ghost use Rattle.fw_book.specs.Notes.{NotesSay};
 
 /// A byte string spells at most one book.
 pub fn one_book()
@@ -33,4 +34,9 @@ pub fn states_follow()
 /// has 1 to 16,777,216 bytes, and the meters are 1 to 256, of which none stands twice and none is live in a campaign of the book.
 pub fn admitted_opens()
     ensures { AdmittedOpens }
+{}
+
+/// What is noted of an opening, or of a row's end, is known from then on, and all else that was known.
+pub fn notes_say()
+    ensures { NotesSay }
 {}

@@ -7,7 +7,9 @@ mod image;
 pub mod laws;
 mod live;
 mod meters;
+mod notes;
 mod offer;
+mod phase;
 mod reading;
 mod restored;
 mod row;
@@ -17,6 +19,8 @@ mod writing;
 
 pub use book::{Book, Campaigns};
 pub use error::BookError;
+pub use notes::{Answer, End, Notes, Reason};
 pub use offer::{MAX_IMAGE_SIZE, MAX_METERS, Offer};
+pub use phase::Phase;
 pub use restored::RestoredBook;
 pub use row::{Row, RowState};

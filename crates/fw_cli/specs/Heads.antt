@@ -11,14 +11,13 @@ use Rattle.fw_disk.specs.declared.cause.Cause.TheVariants.{Missing}
 use Rattle.fw_disk.specs.declared.reason.Reason.{Reason}
 use Rattle.fw_disk.specs.declared.name.Name.TheVariants.{Main}
 use Rattle.fw_journal.specs.Book.{Stands}
-use Rattle.fw_kept.specs.Kept.{HasBook}
+use Rattle.fw_book.specs.Notes.{Known}
+use Rattle.fw_kept.specs.Kept.{HasBook, HasNotes}
 use Rattle.fw_faults.specs.declared.fault.Fault.{Fault}
 use Rattle.fw_faults.specs.declared.fault.Fault.TheVariants.{BadList, BadSetup, BookExists, BookFault, BadBook, BadRecord, CancelRefused, CaptureFault, CounterFault, CounterSpent, ForeignCapture, ForeignHead, Full, ImageFault, ListFault, NoBook, OpenRefused, Output, OutOfMemory, Socket}
-use Rattle.fw_report.specs.declared.summary.RowEntry.{RowEntry}
-use Rattle.fw_report.specs.Json.{number_data, row_data}
-use Rattle.fw_report.specs.Report.{state_word}
-use Rattle.fw_report.specs.Summary.{rows_of_book}
-use Rattle.fw_report.specs.Table.{row_cells, row_headings}
+use Rattle.fw_report.specs.Json.{number_data}
+use Rattle.fw_report.specs.Noted.{Noted, csv_headings, csv_row, noted_data, noted_of_book, row_cells}
+use Rattle.fw_report.specs.Table.{row_headings}
 use Rattle.fw_cli.specs.declared.head.HeadOptions.{HeadOptions}
 use Rattle.fw_cli.specs.Faults.{IsKeyed}
 use Rattle.fw_cli.specs.declared.status.StatusForm.{StatusForm}
@@ -35,39 +34,30 @@ is_in state.Cancelled state.Cancelled = true
 is_in wanted other = false
 
 -- how many rows are
-abbrev pub count_of : RowState → List RowEntry → ℕ
-count_of wanted rows = length (filter (λ (row : RowEntry). is_in wanted row.state) rows)
+abbrev pub count_of : RowState → List Noted → ℕ
+count_of wanted rows = length (filter (λ (noted : Noted). is_in wanted noted.row.state) rows)
 
-abbrev pub counts_line : List RowEntry → List ℕ
+abbrev pub counts_line : List Noted → List ℕ
 counts_line rows =
     codes "\nlive " ++ (decimal (count_of state.Live rows) ++ (codes " done " ++ (decimal (count_of state.Done rows) ++ (codes " failed "
     ++ (decimal (count_of state.Failed rows) ++ (codes " cancelled " ++ (decimal (count_of state.Cancelled rows) ++ codes "\n")))))))
 
--- comma-separated values (RFC 4180) with a header line
-abbrev pub csv_headings : List ℕ
-csv_headings = codes "head,campaign,meter,state\n"
-
-abbrev pub csv_row : RowEntry → List ℕ
-csv_row row =
-    decimal row.head ++ (codes "," ++ (decimal row.serial ++ (codes "," ++ (decimal row.meter ++ (codes "," ++ (state_word row.state
-    ++ codes "\n"))))))
-
-abbrev pub status_data : List RowEntry → Data
+abbrev pub status_data : List Noted → Data
 status_data rows = object (member (codes "cancelled") (number_data (count_of state.Cancelled rows))
     (member (codes "done") (number_data (count_of state.Done rows)) (member (codes "failed") (number_data (count_of state.Failed rows))
     (member (codes "live") (number_data (count_of state.Live rows))
-    (member (codes "rows") (array (items_of (map (λ (row : RowEntry). row_data row) rows))) no_members)))))
+    (member (codes "rows") (array (items_of (map (λ (row : Noted). noted_data row) rows))) no_members)))))
 
--- the rows of the book that bytes hold: of no head end, if it has no record
-abbrev pub HasRows : List ℕ → List RowEntry → Type 0
+-- the rows of the book that bytes hold, with what is known from its notes: of no head end, if it has no record
+abbrev pub HasRows : List ℕ → List Noted → Type 0
 HasRows bytes rows =
     (Stands bytes [] × (rows ≡ []))
-    ⊎ ((book : Contents) × HasBook book.head bytes book × (rows ≡ rows_of_book book.head (Some book)))
+    ⊎ ((book : Contents) × (known : Known) × HasBook book.head bytes book × HasNotes bytes known × (rows ≡ noted_of_book known book))
 
 -- the rows of a book in this form
-abbrev pub status_text : StatusForm → List RowEntry → List ℕ
-status_text form.Table rows = row_headings ++ (flat_map (λ (row : RowEntry). row_cells row) rows ++ counts_line rows)
-status_text form.Csv rows = csv_headings ++ flat_map (λ (row : RowEntry). csv_row row) rows
+abbrev pub status_text : StatusForm → List Noted → List ℕ
+status_text form.Table rows = row_headings ++ (flat_map (λ (row : Noted). row_cells row) rows ++ counts_line rows)
+status_text form.Csv rows = csv_headings ++ flat_map (λ (row : Noted). csv_row row) rows
 status_text form.Json rows = compact_text (status_data rows) ++ codes "\n"
 
 -- ---- the faults

@@ -35,7 +35,7 @@ use fw_faults::{Fault, Reads, read_input};
 use fw_host::{
     BookOptions, CapturePort, ClosedBy, DatagramPort, HeadProgress, Lines, Opening, Part,
     ProgressOutput, Sealing, SealingOptions, Strangers, UdpHeadPort, cancel, check_absent,
-    check_addresses, check_cancel, check_parts, kept_head, open_missing, parts_of, read_list,
+    check_addresses, check_cancel, check_parts, date, kept_head, open_missing, parts_of, read_list,
 };
 use fw_journal::{FileDevice, JournalDevice};
 use fw_kept::KeptHead;
@@ -112,7 +112,7 @@ impl LedOut {
 /// too.
 ///
 /// With keys each datagram that it takes and sends is sealed, on the link of the file of its keys with that meter. What doesn't open is
-/// dropped. The counters of what it sends are in the file of the book with `.counter` after it.
+/// dropped. The counters of what it sends are in the file of its keys with `.counter` after it, whatever the book is.
 ///
 /// All is judged before a file is made: the list, the image, the keys, the socket, and what is cancelled and opened, as far as the book is
 /// known then, and counters that are there. The file of the capture comes next, then a new one of counters, and a new book last.
@@ -136,7 +136,7 @@ impl LedOut {
 ///   left as it is, or as a journal of the same records.
 /// - `NoAddress`: the meter of this number has a live row in the book, and isn't in the list. Rows that are cancelled first need no address.
 /// - `NoCounter`, `CounterExists`: no file of counters is there and none is to be made, or one is there and is to be made. `CounterLocked`:
-///   another process has it.
+///   another process has it, whatever its book is: one at a time seals with these keys.
 /// - `CaptureFault`: the file of the capture can't be made or opened, or another process has it. Or a record can't be written while the
 ///   head end leads: what it is of wasn't handled or sent.
 /// - `ForeignCapture`: the file holds something else than a capture of a daemon. It is left as it is.
@@ -268,6 +268,8 @@ struct Opened {
     parts: Vec<Part>,
     release: u32,
     image: Vec<u8>,
+    /// When they are opened, in seconds since 1970 began (UTC).
+    at: u64,
 }
 
 /// Reads the list, the image and the keys, binds the socket, and opens the book and the counters. A file is made once all of this is
@@ -312,7 +314,7 @@ fn set_up<R: Files<File = File> + Clock + Eprint + Net>(
 }
 
 /// Reads the list, and the image where campaigns are opened.
-fn asked_of<F: Files<File = File> + Net>(
+fn asked_of<F: Files<File = File> + Clock + Net>(
     rt: &F,
     alloc: Global,
     options: &HeadOptions<'_>,
@@ -386,9 +388,9 @@ fn old_head<R: Files<File = File> + Clock + Eprint>(
     let kept = kept_head(rt, alloc, options.book, options.head, options.width)?;
     check_addresses(alloc, &kept, asked.list.meters(), options.cancel)?;
     judge(kept.head().view().book, options, asked)?;
-    let links = JudgedSealing::of(rt, alloc, options.book.path, keyed)?;
+    let links = JudgedSealing::of(rt, alloc, keyed)?;
     let file = CaptureFile::opened(rt, alloc, options.capture)?;
-    let sealing = links.made(rt, alloc, options.book.path)?;
+    let sealing = links.made(rt, alloc)?;
     Ok(Led {
         kept,
         file,
@@ -437,9 +439,9 @@ fn made_head<R: Files<File = File> + Clock + Eprint>(
     ensures asked { IfErr result (λ b. IsAskedFor options.now b.error) }
     ensures faults { IfErr result (λ b. IsOfHeadSetup b.error) }
 {
-    let links = JudgedSealing::of(rt, alloc, options.book.path, keyed)?;
+    let links = JudgedSealing::of(rt, alloc, keyed)?;
     let file = CaptureFile::opened(rt, alloc, options.capture)?;
-    let sealing = links.made(rt, alloc, options.book.path)?;
+    let sealing = links.made(rt, alloc)?;
     let made = kept_head(rt, alloc, options.book, options.head, options.width)?;
     Ok(Led {
         kept: made,
@@ -478,7 +480,7 @@ pub(crate) fn list_of_file<F: Files<File = File> + Net>(
 }
 
 /// The campaigns of an opening for the meters of a list, with the image of its file.
-fn opened_of<F: Files<File = File>>(
+fn opened_of<F: Files<File = File> + Clock>(
     rt: &F,
     alloc: Global,
     opening: Opening<'_>,
@@ -500,6 +502,7 @@ fn opened_of<F: Files<File = File>>(
         parts,
         release: opening.release,
         image,
+        at: date(rt),
     })
 }
 
@@ -628,9 +631,10 @@ fn open_all<W: Write>(
         parts,
         release,
         image,
+        at,
     } = opened;
     check_parts(kept.head().view().book, parts, *release, image)?;
-    open_parts(alloc, lines, kept, parts, *release, image)
+    open_parts(alloc, lines, kept, parts, *release, image, *at)
 }
 
 /// Opens those of these campaigns that the book lacks, in their order.
@@ -641,6 +645,7 @@ fn open_parts<W: Write>(
     parts: &[Part],
     release: u32,
     image: &[u8],
+    at: u64,
 ) -> Result<(), Fault>
     ensures opened { OnOk result (OpensParts release image.now parts.now (head_of kept.old) (head_of kept.new)) }
     ensures writer { lines.new.writer.ghost_name ≡ lines.old.writer.ghost_name }
@@ -649,7 +654,7 @@ fn open_parts<W: Write>(
     ensures faults { IfErr result IsOfOpening }
 {
     for part in parts {
-        open_one(alloc, lines, kept, part, release, image)?;
+        open_one(alloc, lines, kept, part, release, image, at)?;
     }
     Ok(())
 }
@@ -662,6 +667,7 @@ fn open_one<W: Write>(
     part: &Part,
     release: u32,
     image: &[u8],
+    at: u64,
 ) -> Result<(), Fault>
     ensures opened { OnOk result ((name : Option Name) × OpensPart release image.now part.now (head_of kept.old) name (head_of kept.new)) }
     ensures writer { lines.new.writer.ghost_name ≡ lines.old.writer.ghost_name }
@@ -669,7 +675,7 @@ fn open_one<W: Write>(
         (W.contents lines.new.writer.now) }
     ensures faults { IfErr result IsOfOpening }
 {
-    let Some(name) = open_missing(alloc, kept, part, release, image)? else {
+    let Some(name) = open_missing(alloc, kept, part, release, image, at)? else {
         return Ok(());
     };
     lines.tell_opened(name);

@@ -5,17 +5,16 @@ ghost use Rattle.std.specs.Io.KnownBytes.{Appends, Keeps};
 ghost use Rattle.fw_journal.specs.Book.{Drops};
 ghost use Rattle.serde_json.specs.View.{view};
 ghost use Rattle.serde_json.specs.Written.{compact_text};
-ghost use Rattle.fw_report.specs.declared.summary.RowEntry.{RowEntry};
-ghost use Rattle.fw_cli.specs.Heads.{HasRows, IsOfReport, IsOfStatus, SaysWhy, count_of, counts_line, csv_row, is_in, status_data, status_text};
+ghost use Rattle.fw_report.specs.Noted.{Noted};
+ghost use Rattle.fw_cli.specs.Heads.{HasRows, IsOfReport, IsOfStatus, SaysWhy, count_of, counts_line, is_in, status_data, status_text};
 
 use fw_book::RowState;
 use fw_disk::{Because, Cause, Name};
 use fw_faults::{Fault, write_text};
 use fw_host::untaken_line;
 use fw_kept::read_kept;
-use fw_report::json::push_rows;
-use fw_report::table::{ROW_HEADINGS, append_rows};
-use fw_report::{RowEntry, push_book, state_word};
+use fw_report::table::ROW_HEADINGS;
+use fw_report::{NotedRow, append_noted, append_noted_csv, push_noted, push_noted_values};
 use serde_json::{Value, json};
 use std::alloc::{AllocError, Global};
 use std::fs::File;
@@ -24,7 +23,7 @@ use std::io::{ErrorKind, Read, Write};
 use std::rt::Files;
 
 /// The headings of comma-separated values.
-const CSV_HEADINGS: &str = "head,campaign,meter,state\n";
+const CSV_HEADINGS: &str = "head,campaign,meter,state,opened,ended,reason\n";
 
 /// The form of the report.
 #[derive(Clone, Copy)]
@@ -62,7 +61,7 @@ pub fn run_status<F: Files<File = File> + Eprint, W: Write>(
     options: &StatusOptions<'_>,
 ) -> Result<(), Because<Fault>>
     // Of the file's contents nothing is known here, so the bytes are some. The report is of all rows of the book that they hold.
-    ensures ok { OnOk result ((bytes : List ℕ) × (rows : List RowEntry) × HasRows bytes rows
+    ensures ok { OnOk result ((bytes : List ℕ) × (rows : List Noted) × HasRows bytes rows
         × Appends (W.contents writer.old) (W.contents writer.new) (status_text options.now.report rows)) }
     ensures silent { IfErr result (λ b. b.error ≢ Fault.Output → Keeps (W.contents writer.old) (W.contents writer.new)) }
     ensures reason { IfErr result (λ b. SaysWhy b.error b.reason) }
@@ -83,7 +82,7 @@ fn tell_status<F: Eprint, W: Write>(
     bytes: &[u8],
     report: StatusForm,
 ) -> Result<(), Fault>
-    ensures ok { OnOk result ((rows : List RowEntry) × HasRows bytes.now rows
+    ensures ok { OnOk result ((rows : List Noted) × HasRows bytes.now rows
         × Appends (W.contents writer.old) (W.contents writer.new) (status_text report rows)) }
     ensures silent { IfErr result (λ f. f ≢ Fault.Output → Keeps (W.contents writer.old) (W.contents writer.new)) }
     ensures faults { IfErr result IsOfReport }
@@ -139,22 +138,22 @@ fn refused(error: io::Error) -> Because<Fault>
 }
 
 /// The rows of the book that these bytes hold, and how many whole records stand behind its shut gate.
-fn rows_of(alloc: Global, bytes: &[u8]) -> Result<(Vec<RowEntry>, usize), Fault>
+fn rows_of(alloc: Global, bytes: &[u8]) -> Result<(Vec<NotedRow>, usize), Fault>
     ensures rows { IfOk result (λ r. HasRows bytes.now r.0.items) }
     ensures untaken { IfOk result (λ r. (rest : List ℕ) × Drops bytes.now rest r.1) }
     ensures faults { IfErr result IsOfReport }
 {
     let mut rows = Vec::new(alloc);
-    let (book, untaken) = read_kept(alloc, bytes)?;
+    let (book, notes, untaken) = read_kept(alloc, bytes)?;
     let Some(book) = book else {
         return Ok((rows, untaken));
     };
-    push_book(&mut rows, book.head().number(), &book)?;
+    push_noted(&mut rows, &book, &notes)?;
     Ok((rows, untaken))
 }
 
 /// The report of rows in this form.
-fn status_of(alloc: Global, rows: &[RowEntry], form: StatusForm) -> Result<String, AllocError>
+fn status_of(alloc: Global, rows: &[NotedRow], form: StatusForm) -> Result<String, AllocError>
     ensures { IfOk result (λ text. string_bytes text ≡ status_text form rows.now) }
 {
     let mut text = String::new(alloc);
@@ -167,10 +166,12 @@ fn status_of(alloc: Global, rows: &[RowEntry], form: StatusForm) -> Result<Strin
 }
 
 /// How many rows are in this state.
-fn count_of(rows: &[RowEntry], state: RowState) -> usize
+fn count_of(rows: &[NotedRow], state: RowState) -> usize
     ensures { result ≡ count_of state rows.now }
 {
-    rows.iter().filter(|row| is_in(state, row.state)).count()
+    rows.iter()
+        .filter(|noted| is_in(state, noted.row.state))
+        .count()
 }
 
 /// Whether a row in the second state is in the first.
@@ -181,16 +182,16 @@ fn is_in(wanted: RowState, state: RowState) -> bool
 }
 
 /// Appends a table of rows, and how many are in which state.
-fn append_status_table(text: &mut String, rows: &[RowEntry]) -> Result<(), AllocError>
+fn append_status_table(text: &mut String, rows: &[NotedRow]) -> Result<(), AllocError>
     ensures { OnOk result (string_bytes text.new ≡ string_bytes text.old ++ status_text StatusForm.Table rows.now) }
 {
     text.push_str(ROW_HEADINGS)?;
-    append_rows(text, rows)?;
+    append_noted(text, rows)?;
     append_counts(text, rows)
 }
 
 /// Appends how many rows are in which state.
-fn append_counts(text: &mut String, rows: &[RowEntry]) -> Result<(), AllocError>
+fn append_counts(text: &mut String, rows: &[NotedRow]) -> Result<(), AllocError>
     ensures { OnOk result (string_bytes text.new ≡ string_bytes text.old ++ counts_line rows.now) }
 {
     let live = count_of(rows, RowState::Live);
@@ -204,35 +205,16 @@ fn append_counts(text: &mut String, rows: &[RowEntry]) -> Result<(), AllocError>
 }
 
 /// Appends rows as comma-separated values. No number and no word needs quotes.
-fn append_csv(text: &mut String, rows: &[RowEntry]) -> Result<(), AllocError>
+fn append_csv(text: &mut String, rows: &[NotedRow]) -> Result<(), AllocError>
     ensures { OnOk result (string_bytes text.new ≡ string_bytes text.old ++ status_text StatusForm.Csv rows.now) }
 {
     text.push_str(CSV_HEADINGS)?;
-    append_csv_rows(text, rows)?;
+    append_noted_csv(text, rows)?;
     Ok(())
-}
-
-/// Appends a line for each row.
-fn append_csv_rows(text: &mut String, rows: &[RowEntry]) -> Result<(), AllocError>
-    ensures { OnOk result (string_bytes text.new ≡ string_bytes text.old ++ flat_map (λ row. csv_row row) rows.now) }
-{
-    for row in rows {
-        append_csv_row(text, row)?;
-    }
-    Ok(())
-}
-
-/// Appends a row as comma-separated values.
-fn append_csv_row(text: &mut String, row: &RowEntry) -> Result<(), AllocError>
-    ensures { OnOk result (string_bytes text.new ≡ string_bytes text.old ++ csv_row row.now) }
-{
-    let (head, serial, meter) = (row.head, row.serial, row.meter);
-    let state = state_word(row.state);
-    write!(text, "{head},{serial},{meter},{state}\n")
 }
 
 /// Appends rows as JSON, with how many are in which state.
-fn append_status_json(alloc: Global, text: &mut String, rows: &[RowEntry]) -> Result<(), AllocError>
+fn append_status_json(alloc: Global, text: &mut String, rows: &[NotedRow]) -> Result<(), AllocError>
     ensures { OnOk result (string_bytes text.new ≡ string_bytes text.old ++ status_text StatusForm.Json rows.now) }
 {
     let json = json_text(alloc, rows)?;
@@ -241,7 +223,7 @@ fn append_status_json(alloc: Global, text: &mut String, rows: &[RowEntry]) -> Re
 }
 
 /// The text of rows as JSON, without its line feed.
-fn json_text(alloc: Global, rows: &[RowEntry]) -> Result<String, AllocError>
+fn json_text(alloc: Global, rows: &[NotedRow]) -> Result<String, AllocError>
     ensures { IfOk result (λ text. string_bytes text ≡ compact_text (status_data rows.now)) }
 {
     let value = status_value(alloc, rows)?;
@@ -249,11 +231,11 @@ fn json_text(alloc: Global, rows: &[RowEntry]) -> Result<String, AllocError>
 }
 
 /// Rows as a value of JSON.
-fn status_value(alloc: Global, rows: &[RowEntry]) -> Result<Value, AllocError>
+fn status_value(alloc: Global, rows: &[NotedRow]) -> Result<Value, AllocError>
     ensures { IfOk result (λ v. view v ≡ status_data rows.now) }
 {
     let mut values = Vec::new(alloc);
-    push_rows(alloc, &mut values, rows)?;
+    push_noted_values(alloc, &mut values, rows)?;
     json!(in alloc; {
         "cancelled": count_of(rows, RowState::Cancelled),
         "done": count_of(rows, RowState::Done),

@@ -52,7 +52,7 @@ went_head : (a : Head) (meter : ℕ) (row : Row) (heard : RowNews) → (went_on 
 went_head a meter row by.Nothing = refl
 went_head a meter row by.Moved = refl
 went_head a meter row (by.Done claim) = refl
-went_head a meter row by.Failed = refl
+went_head a meter row (by.Failed why) = refl
 
 heard_head : (a b : Head) (meter : ℕ) (datagram : List ℕ) (told : News) → HeadHears a meter datagram told b → b.book.head ≡ a.book.head
 heard_head a b meter datagram told (inl takes) = ap (λ (h : Head). h.book.head) takes.new_is ∙ went_head a meter takes.next takes.heard

@@ -41,7 +41,7 @@ otherwise_asks Size asks = tt
 otherwise_asks (Enable g) asks = tt
 otherwise_asks (Confirm g) asks = tt
 otherwise_asks (Done claim) asks = tt
-otherwise_asks Failed asks = tt
+otherwise_asks (Failed why) asks = tt
 otherwise_asks _ asks = absurd asks
 
 pub asking_step : (n : Name) (size : ℕ) (stage : Stage) (h : Heard) (step : Step) → IsAsking stage → Leads n size stage h step → IsAskingStep step

@@ -3,7 +3,7 @@ use Rattle.std.proofs.Common.{◌≡◌, ℕ, List, Option, Some, None, inl, inr
 use Rattle.fw_names.specs.Name.{Name, Campaign}
 use Rattle.fw_client.specs.Claim.{Claim}
 use Rattle.fw_book.specs.Contents.{name_in}
-use Rattle.fw_head.specs.declared.phase.Phase.TheVariants as phase
+use Rattle.fw_book.specs.declared.phase.Phase.TheVariants as phase
 use Rattle.fw_head.specs.declared.stage.Stage.{Stage}
 use Rattle.fw_head.specs.declared.stage.Stage.TheVariants.{Size, Enable, Start, Blocks, Check, Gaps, Verify, Poll, Info, Activate, Confirm, Done, Failed}
 use Rattle.fw_head.specs.declared.news.News.{News}
@@ -30,7 +30,7 @@ not_done (Info g) live e = cc
 not_done (Activate g) live e = cc
 not_done (Confirm g) live e = cc
 not_done (Done claim) live e = live
-not_done Failed live e = cc
+not_done (Failed why) live e = cc
 
 -- only a claim leads to that report
 told_done : (heard : RowNews) (c d : Campaign) (from meter : ℕ) → news_of c from heard ≡ news.Done d meter → (claim : Claim) × (heard ≡ by.Done claim) × (c ≡ d) × (from ≡ meter)
@@ -49,7 +49,7 @@ told_done (by.Done claim) c d from meter e = (claim, refl, campaigns e, meters e
 
     meters : news.Done c from ≡ news.Done d meter → from ≡ meter
     meters e = cc
-told_done by.Failed c d from meter e = absurd (failed e)
+told_done (by.Failed why) c d from meter e = absurd (failed e)
   where
     failed : news.Failed c from ≡ news.Done d meter → ⊥
     failed e = cc

@@ -45,8 +45,8 @@ module _ (follow : StatesFollowCalls) (stay : ImagesStay) (offers : OpeningOffer
       let name = (goal_heard row next datagram (by.Done claim) hears).name in
       head_ended_by follow stay old.book (marked old.book next.name.campaign.serial meter states.Done) old.width old.rows (without_meter meter old.rows) meter row next.name.campaign.serial states.Done
       refl found (ap (λ (n : Name). n.campaign.serial) name) refl refl is
-  went old meter datagram row next by.Failed is found hears =
-      let name = (goal_heard row next datagram by.Failed hears).name in
+  went old meter datagram row next (by.Failed why) is found hears =
+      let name = (goal_heard row next datagram (by.Failed why) hears).name in
       head_ended_by follow stay old.book (marked old.book next.name.campaign.serial meter states.Failed) old.width old.rows (without_meter meter old.rows) meter row next.name.campaign.serial states.Failed
       refl found (ap (λ (n : Name). n.campaign.serial) name) refl refl is
 

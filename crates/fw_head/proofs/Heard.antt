@@ -1,5 +1,6 @@
 -- What a client heard, as a row takes it: a datagram that is no stranger's answers an ask.
-use Rattle.std.proofs.Common.{◌≡◌, ℕ, inl, inr, List, refl, sym, ap, subst}
+use Rattle.std.proofs.Common.{◌≡◌, ℕ, inl, inr, List, length, Option, Some, None, option_map, refl, sym, ap, subst, ◌∙◌}
+use Rattle.fw_names.specs.Name.{Name}
 use Rattle.fw_axdr.specs.Value.{Value, array, bit_string, double_long_unsigned, octet_string, enumerated}
 use Rattle.fw_apdu.specs.Response.{value, code, ResponseContent, get_response, set_response, action_response}
 use Rattle.fw_client.specs.Claim.{Claim}
@@ -10,7 +11,13 @@ use Rattle.fw_client.specs.declared.ask.Asked.{Asked}
 use Rattle.fw_client.specs.declared.ask.Asked.TheVariants as asked
 use Rattle.fw_client.specs.declared.heard.Heard.{Heard}
 use Rattle.fw_client.specs.declared.heard.Heard.TheVariants.{Active, Number, BitSet, Status, Info, Code, Stranger}
+use Rattle.fw_book.specs.declared.notes.Answer.{Answer}
+use Rattle.fw_book.specs.declared.notes.Answer.TheVariants as kept
+use Rattle.fw_head.specs.Reason.{answer_of}
 use Rattle.fw_head.proofs.OwnClaims.{IsOf}
+
+none_some : (answer : Answer) → (let o : Option Answer = Some answer in o ≡ None) → ⊥
+none_some answer e = cc
 
 -- something is heard
 abbrev IsAnswer : Heard → Type 0
@@ -93,3 +100,17 @@ pub taken_by : (c old new : State) (datagram : List ℕ) (h : Heard) → c ≡ o
 taken_by c old new datagram h e some hears =
     let P : State → Type 0 = λ x. Takes x datagram h new in
     subst P e (taken c new datagram h some hears)
+
+-- what has no answer to be kept is a stranger's
+pub no_answer : (h : Heard) → answer_of h ≡ None → h ≡ Stranger
+no_answer (Active claim) e = absurd (none_some (kept.Active claim.name.campaign) e)
+no_answer (Number n) e = absurd (none_some (kept.Number n) e)
+no_answer (BitSet known) e = absurd (none_some (kept.Bits (length known)) e)
+no_answer (Status s) e = absurd (none_some (kept.Status s) e)
+no_answer (Info told) e = absurd (none_some (kept.Info (option_map (λ (name : Name). name.campaign) told)) e)
+no_answer (Code a c) e = absurd (none_some (kept.Code c) e)
+no_answer Stranger e = refl
+
+-- and what has one isn't
+pub some_answer : (h : Heard) (answer : Answer) → answer_of h ≡ Some answer → ¬ (h ≡ Stranger)
+some_answer h answer is strange = none_some answer (sym is ∙ ap answer_of strange)

@@ -35,7 +35,7 @@ goes entry = not (has_ended entry.1.stage)
 
 live_stage : (stage : Stage) → not (has_ended stage) ≡ true → IsLive stage
 live_stage (Done claim) e = false≢true e
-live_stage Failed e = false≢true e
+live_stage (Failed why) e = false≢true e
 live_stage stage e = tt
 
 -- a row that is found among those that have not ended is found among all
@@ -88,23 +88,23 @@ found_kept (entry ∷ es) m row found stays =
 -- a row that has not ended leaves the book
 pub end_none : (book : Contents) (serial meter : ℕ) (stage : Stage) → has_ended stage ≡ false → with_end book serial meter stage ≡ book
 end_none book serial meter (Done claim) e = absurd (false≢true (sym e))
-end_none book serial meter Failed e = absurd (false≢true (sym e))
+end_none book serial meter (Failed why) e = absurd (false≢true (sym e))
 end_none book serial meter stage e = refl
 
 module _ (follow : StatesFollowCalls) (stay : ImagesStay) where
   end_image : (book : Contents) (serial meter : ℕ) (stage : Stage) (c : Campaign) → image_in (with_end book serial meter stage) c ≡ image_in book c
   end_image book serial meter (Done claim) c = (stay book c).at_mark serial meter state.Done
-  end_image book serial meter Failed c = (stay book c).at_mark serial meter state.Failed
+  end_image book serial meter (Failed why) c = (stay book c).at_mark serial meter state.Failed
   end_image book serial meter stage c = refl
 
   end_name : (book : Contents) (serial meter : ℕ) (stage : Stage) (c : Campaign) → name_in (with_end book serial meter stage) c ≡ name_in book c
   end_name book serial meter (Done claim) c = mark_name book serial meter state.Done c
-  end_name book serial meter Failed c = mark_name book serial meter state.Failed c
+  end_name book serial meter (Failed why) c = mark_name book serial meter state.Failed c
   end_name book serial meter stage c = refl
 
   end_elsewhere : (book : Contents) (serial meter : ℕ) (stage : Stage) (c : Campaign) (m : ℕ) → m ≢ meter → state_in (with_end book serial meter stage) c m ≡ state_in book c m
   end_elsewhere book serial meter (Done claim) c m apart = state_stays follow book serial meter state.Done c m apart
-  end_elsewhere book serial meter Failed c m apart = state_stays follow book serial meter state.Failed c m apart
+  end_elsewhere book serial meter (Failed why) c m apart = state_stays follow book serial meter state.Failed c m apart
   end_elsewhere book serial meter stage c m apart = refl
 
   -- who is live after the end of a row was live before, and its meter isn't in the row's campaign then
@@ -120,12 +120,12 @@ module _ (follow : StatesFollowCalls) (stay : ImagesStay) where
     where
       before : (stage : Stage) → state_in (with_end book serial meter stage) c meter ≡ Some state.Live → state_in book c meter ≡ Some state.Live
       before (Done claim) at = (marked_ends follow book serial meter state.Done c refl at).1
-      before Failed at = (marked_ends follow book serial meter state.Failed c refl at).1
+      before (Failed why) at = (marked_ends follow book serial meter state.Failed c refl at).1
       before stage at = at
 
   end_not_live : (book : Contents) (c : Campaign) (meter : ℕ) (stage : Stage) → has_ended stage ≡ true → ¬ (state_in (with_end book c.serial meter stage) c meter ≡ Some state.Live)
   end_not_live book c meter (Done claim) ended live = (marked_ends follow book c.serial meter state.Done c refl live).0 refl
-  end_not_live book c meter Failed ended live = (marked_ends follow book c.serial meter state.Failed c refl live).0 refl
+  end_not_live book c meter (Failed why) ended live = (marked_ends follow book c.serial meter state.Failed c refl live).0 refl
   end_not_live book c meter stage ended live = false≢true ended
 
   pub ends_image : (book : Contents) (rows : List Row) (c : Campaign) → image_in (with_ends book rows) c ≡ image_in book c
@@ -252,7 +252,7 @@ module _ (follow : StatesFollowCalls) (stay : ImagesStay) where
 
   end_own : (book : Contents) (row : Row) (stage : Stage) → IsOfBook book row → state_in (with_end book row.name.campaign.serial row.client.meter stage) row.name.campaign row.client.meter ≡ Some (state_of_stage stage)
   end_own book row (Done claim) of = marked_own book row state.Done of
-  end_own book row Failed of = marked_own book row state.Failed of
+  end_own book row (Failed why) of = marked_own book row state.Failed of
   end_own book row stage of = of.live
 
   end_other : (book : Contents) (row : Row) (stage : Stage) (c : Campaign) (m : ℕ) → IsOfBook book row → ¬ (state_in book c m ≡ Some state.Live) → state_in (with_end book row.name.campaign.serial row.client.meter stage) c m ≡ state_in book c m
@@ -273,7 +273,7 @@ module _ (follow : StatesFollowCalls) (stay : ImagesStay) where
     where
       elsewhere : (stage : Stage) → c ≢ record { head = book.head; serial = row.name.campaign.serial } → state_in (with_end book row.name.campaign.serial row.client.meter stage) c m ≡ state_in book c m
       elsewhere (Done claim) other = ((follow book (record { head = book.head; serial = row.name.campaign.serial }) refl).at_mark row.client.meter state.Done).others c m other
-      elsewhere Failed other = ((follow book (record { head = book.head; serial = row.name.campaign.serial }) refl).at_mark row.client.meter state.Failed).others c m other
+      elsewhere (Failed why) other = ((follow book (record { head = book.head; serial = row.name.campaign.serial }) refl).at_mark row.client.meter state.Failed).others c m other
       elsewhere stage other = refl
 
   none_ended : (r : Row) (rows : List Row) (m : ℕ) → m ≡ r.client.meter → AllByRecursion (λ y. nat_eq r.client.meter y ≡ false) (keys_of (by_meter rows)) → AllByRecursion (λ (x : Row). x.client.meter ≡ m → has_ended x.stage ≡ false) rows

@@ -12,6 +12,7 @@ pub mod States
 pub mod Endings
 pub mod TakenOut
 pub mod RowLaws
+pub mod Failing
 pub mod Permitted
 pub mod Offered
 pub mod ByMeter
@@ -22,5 +23,6 @@ mod Cancelling
 mod Openings
 mod Reopened
 mod DoneIn
+pub mod FailedIn
 mod HasRow
 mod HeadsStay

@@ -9,7 +9,7 @@ use Rattle.fw_client.specs.Claim.{Claim}
 use Rattle.fw_client.specs.declared.ask.Asked.TheVariants as asked
 use Rattle.fw_client.specs.declared.heard.Heard.{Heard}
 use Rattle.fw_client.specs.declared.heard.Heard.TheVariants as heard
-use Rattle.fw_head.specs.declared.phase.Phase.TheVariants as phase
+use Rattle.fw_book.specs.declared.phase.Phase.TheVariants as phase
 use Rattle.fw_head.specs.declared.stage.Stage.{Stage}
 use Rattle.fw_head.specs.declared.stage.Stage.TheVariants.{Size, Enable, Start, Blocks, Check, Gaps, Verify, Poll, Info, Activate, Confirm, Done, Failed}
 use Rattle.fw_head.specs.declared.answers.Step.{Step}
@@ -85,7 +85,7 @@ otherwise_holds C E Size cut = tt
 otherwise_holds C E (Enable g) cut = tt
 otherwise_holds C E (Start g) cut = tt
 otherwise_holds C E (Done claim) cut = tt
-otherwise_holds C E Failed cut = tt
+otherwise_holds C E (Failed why) cut = tt
 otherwise_holds C E _ cut = cut
 
 by_leads : (C : Cuts) (E : Ends) (n : Name) (size : ℕ) (stage : Stage) (h : Heard) (step : Step) → ((b : ℕ) → IsWithinLimits b size → C (record { block_size = b; size = size })) → ((claim : Claim) → phase_of stage ≡ phase.Confirm → h ≡ heard.Active claim → claim.name ≡ n → E claim) → CutHolds C stage → Leads n size stage h step → StepHolds C E step

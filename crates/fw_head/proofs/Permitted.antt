@@ -59,7 +59,7 @@ may_in meter name size image width (Info g) own long = one name image ask.info t
 may_in meter name size image width (Activate g) own long = one name image ask.activate tt
 may_in meter name size image width (Confirm g) own long = one name image ask.active_name tt
 may_in meter name size image width (Done claim) own long = All-nil (MaySend name image)
-may_in meter name size image width Failed own long = All-nil (MaySend name image)
+may_in meter name size image width (Failed why) own long = All-nil (MaySend name image)
 
 may_first : (meter : ℕ) (name : Name) (size : ℕ) (image : List ℕ) (width : ℕ) (stage : Stage) (asks_first : Bool) → IsOwn meter name size stage → length image ≡ size → All (MaySend name image) (asks_first_in name size image width stage asks_first)
 may_first meter name size image width (Confirm g) true own long = All-cons (MaySend name image) ask.active_name (ask.blocks ∷ []) tt (one name image ask.blocks tt)
@@ -75,7 +75,7 @@ may_first meter name size image width (Poll g) asks_first own long = may_in mete
 may_first meter name size image width (Info g) asks_first own long = may_in meter name size image width (Info g) own long
 may_first meter name size image width (Activate g) asks_first own long = may_in meter name size image width (Activate g) own long
 may_first meter name size image width (Done claim) asks_first own long = may_in meter name size image width (Done claim) own long
-may_first meter name size image width Failed asks_first own long = may_in meter name size image width Failed own long
+may_first meter name size image width (Failed why) asks_first own long = may_in meter name size image width (Failed why) own long
 
 -- ---- each datagram
 

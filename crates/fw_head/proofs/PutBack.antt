@@ -19,7 +19,7 @@ Going row = has_ended row.stage ≡ false
 
 not_ended : (stage : Stage) → IsLive stage → has_ended stage ≡ false
 not_ended (Done claim) live = absurd live
-not_ended Failed live = absurd live
+not_ended (Failed why) live = absurd live
 not_ended stage live = refl
 
 -- if no row ended, none is marked

@@ -9,13 +9,15 @@ use Rattle.fw_blocks.specs.Cuts.{Partition}
 use Rattle.fw_client.specs.State.{forgetting}
 use Rattle.fw_book.specs.declared.row.RowState.TheVariants as state
 use Rattle.fw_book.specs.Contents.{Contents, state_in}
+use Rattle.fw_book.specs.declared.notes.Reason.{Reason}
 use Rattle.fw_head.specs.declared.stage.Stage.{Stage}
 use Rattle.fw_head.specs.declared.stage.Stage.TheVariants.{Start, Blocks, Done, Failed}
 use Rattle.fw_head.specs.declared.answers.Step.{Step}
-use Rattle.fw_head.specs.declared.answers.Step.TheVariants.{Stay, Took, Move, Return}
+use Rattle.fw_head.specs.declared.answers.Step.TheVariants.{Stay, Took, Move, Return, Fail}
 use Rattle.fw_head.specs.declared.news.RowNews.{RowNews}
 use Rattle.fw_head.specs.declared.news.RowNews.TheVariants as news
 use Rattle.fw_head.specs.Phase.{IsLive}
+use Rattle.fw_head.specs.Reason.{reason_at}
 use Rattle.fw_head.specs.Row.{Row, news_in, max_returns, new_row, ticked, tick_asks, moved, returned, settled, with_block, went, confirm_first, asked_first, stepped, RowHears}
 use Rattle.fw_head.specs.Head.{Rows, RowsHear, row_of, at_meter, renewed, IsRowOf, IsHead}
 use Rattle.fw_head.specs.Laws.{IsOfSameGoal, RowKeepsGoal}
@@ -47,24 +49,25 @@ goal_either : (b : Bool) (row x y : Row) → IsOfSameGoal row x → IsOfSameGoal
 goal_either true row x y h k = h
 goal_either false row x y h k = k
 
-goal_returned : (row : Row) (g : Partition) → IsOfSameGoal row (returned row g)
-goal_returned row g =
-    goal_either (nat_lt (row.returns + 1) max_returns) row (record (moved row (Start g)) { returns = row.returns + 1 }) (moved row Failed)
-    (record { name = refl; size = refl; meter = refl }) (goal_moved row Failed)
+goal_returned : (row : Row) (g : Partition) (why : Reason) → IsOfSameGoal row (returned row g why)
+goal_returned row g why =
+    goal_either (nat_lt (row.returns + 1) max_returns) row (record (moved row (Start g)) { returns = row.returns + 1 }) (moved row (Failed why))
+    (record { name = refl; size = refl; meter = refl }) (goal_moved row (Failed why))
 
-goal_went : (row : Row) (step : Step) → IsOfSameGoal row (went row step)
-goal_went row Stay = itself row
-goal_went row (Took n) = goal_settled row (with_block row.stage n)
-goal_went row (Move stage) = goal_moved row stage
-goal_went row (Return g) = goal_returned row g
+goal_went : (row : Row) (step : Step) (why : Reason) → IsOfSameGoal row (went row step why)
+goal_went row Stay why = itself row
+goal_went row (Took n) why = goal_settled row (with_block row.stage n)
+goal_went row (Move stage) why = goal_moved row stage
+goal_went row (Return g) why = goal_returned row g why
+goal_went row Fail why = goal_moved row (Failed why)
 
-goal_asking : (row : Row) (step : Step) → IsOfSameGoal row (asked_first row step)
-goal_asking row (Move stage) = goal_moved row (confirm_first stage)
-goal_asking row (Return g) = record { name = refl; size = refl; meter = refl }
-goal_asking row step = goal_went row step
+goal_asking : (row : Row) (step : Step) (why : Reason) → IsOfSameGoal row (asked_first row step why)
+goal_asking row (Move stage) why = goal_moved row (confirm_first stage)
+goal_asking row (Return g) why = record { name = refl; size = refl; meter = refl }
+goal_asking row step why = goal_went row step why
 
-goal_stepped : (row : Row) (step : Step) → IsOfSameGoal row (stepped row step)
-goal_stepped row step = goal_either row.asks_first row (asked_first row step) (went row step) (goal_asking row step) (goal_went row step)
+goal_stepped : (row : Row) (step : Step) (why : Reason) → IsOfSameGoal row (stepped row step why)
+goal_stepped row step why = goal_either row.asks_first row (asked_first row step why) (went row step why) (goal_asking row step why) (goal_went row step why)
 
 pub goes_ticked : (row : Row) (image : List ℕ) (width : ℕ) → GoesOn row (ticked row image width)
 goes_ticked row image width =
@@ -73,7 +76,7 @@ goes_ticked row image width =
 pub goal_heard : RowKeepsGoal
 goal_heard row next datagram told (inl takes) =
     let between : Row = record row { client = takes.client } in
-    let kept = goal_stepped between takes.step in
+    let kept = goal_stepped between takes.step (reason_at row.stage takes.answer) in
     record {
       name = ap (λ (r : Row). r.name) takes.new_is ∙ kept.name;
       size = ap (λ (r : Row). r.size) takes.new_is ∙ kept.size;
@@ -89,12 +92,12 @@ goal_heard row next datagram told (inr ignores) =
 -- what reports no end leaves the row going
 abbrev pub TellsNoEnd : RowNews → Type 0
 TellsNoEnd (news.Done claim) = ⊥
-TellsNoEnd news.Failed = ⊥
+TellsNoEnd (news.Failed why) = ⊥
 TellsNoEnd told = Unit {0}
 
 no_end : (stage : Stage) (told : RowNews) → told ≡ news_in stage → TellsNoEnd told → IsLive stage
 no_end (Done claim) told is none = subst TellsNoEnd is none
-no_end Failed told is none = subst TellsNoEnd is none
+no_end (Failed why) told is none = subst TellsNoEnd is none
 no_end stage told is none = tt
 
 goes_heard : (row next : Row) (datagram : List ℕ) (told : RowNews) → RowHears row datagram told next → TellsNoEnd told → GoesOn row next

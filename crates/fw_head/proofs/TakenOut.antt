@@ -7,6 +7,7 @@ use Rattle.fw_client.specs.Claim.{Claim}
 use Rattle.fw_book.specs.declared.row.RowState.{RowState}
 use Rattle.fw_book.specs.declared.row.RowState.TheVariants as states
 use Rattle.fw_book.specs.Changes.{marked}
+use Rattle.fw_book.specs.declared.notes.Reason.{Reason}
 use Rattle.fw_head.specs.declared.news.News.{News}
 use Rattle.fw_head.specs.declared.news.News.TheVariants as news
 use Rattle.fw_head.specs.declared.news.RowNews.{RowNews}
@@ -49,7 +50,7 @@ none_some row e = cc
 -- a row that took an answer reports something
 tells : (stage : Stage) (told : RowNews) → told ≡ news_in stage → ¬ (told ≡ Nothing)
 tells (Done claim) told is nothing = cc
-tells Failed told is nothing = cc
+tells (Failed why) told is nothing = cc
 tells _ told is nothing = cc
 
 pub hears_nothing : (head new : Head) (meter : ℕ) (datagram : List ℕ) (rows : Rows) (row : Row) (told : News) → RowsHear head.rows meter datagram Nothing rows → row_of head.rows meter ≡ Some row → new ≡ record head { rows = rows } → told ≡ news.Nothing → HeadHears head meter datagram told new
@@ -104,16 +105,16 @@ hears_done head new meter datagram rows row told claim campaign (inl x) at of is
     })
 hears_done head new meter datagram rows row told claim campaign (inr x) at of is tell = absurd (none_some row (sym x.0 ∙ at))
 
-pub hears_failed : (head new : Head) (meter : ℕ) (datagram : List ℕ) (rows : Rows) (row : Row) (told : News) (campaign : Campaign) → RowsHear head.rows meter datagram by.Failed rows → row_of head.rows meter ≡ Some row → campaign ≡ row.name.campaign → new ≡ record head { book = marked head.book campaign.serial meter states.Failed; rows = without_meter meter rows } → told ≡ news.Failed campaign meter → HeadHears head meter datagram told new
-hears_failed head new meter datagram rows row told campaign (inl x) at of is tell =
+pub hears_failed : (head new : Head) (meter : ℕ) (datagram : List ℕ) (rows : Rows) (row : Row) (told : News) (why : Reason) (campaign : Campaign) → RowsHear head.rows meter datagram (by.Failed why) rows → row_of head.rows meter ≡ Some row → campaign ≡ row.name.campaign → new ≡ record head { book = marked head.book campaign.serial meter states.Failed; rows = without_meter meter rows } → told ≡ news.Failed campaign meter → HeadHears head meter datagram told new
+hears_failed head new meter datagram rows row told why campaign (inl x) at of is tell =
     let it : x.0 ≡ row = same_found meter meter head.rows x.0 row refl x.2 at in
     inl (record {
       row = x.0;
       next = x.1;
-      heard = by.Failed;
+      heard = by.Failed why;
       found = x.2;
       hears = x.3;
-      new_is = is ∙ ends head meter campaign.serial states.Failed rows x.0 x.1 row it (goal_heard x.0 x.1 datagram by.Failed x.3) (ap (λ (c : Campaign). c.serial) of) x.4;
+      new_is = is ∙ ends head meter campaign.serial states.Failed rows x.0 x.1 row it (goal_heard x.0 x.1 datagram (by.Failed why) x.3) (ap (λ (c : Campaign). c.serial) of) x.4;
       told_is = tell ∙ ap (λ (c : Campaign). (let n : News = news.Failed c meter in n)) (of ∙ ap (λ (r : Row). r.name.campaign) (sym it));
     })
-hears_failed head new meter datagram rows row told campaign (inr x) at of is tell = absurd (none_some row (sym x.0 ∙ at))
+hears_failed head new meter datagram rows row told why campaign (inr x) at of is tell = absurd (none_some row (sym x.0 ∙ at))

@@ -11,13 +11,14 @@ use Rattle.fw_book.specs.declared.row.RowState.TheVariants as state
 use Rattle.fw_book.specs.Rows.{has_live}
 use Rattle.fw_book.specs.Contents.{Contents, Offered, offered_in, image_in, name_in, state_in}
 use Rattle.fw_book.specs.Changes.{empty_book, opened, cancelled, marked}
+use Rattle.fw_book.specs.declared.notes.Reason.{Reason}
 use Rattle.fw_head.specs.declared.news.News.{News}
 use Rattle.fw_head.specs.declared.news.News.TheVariants as news
 use Rattle.fw_head.specs.declared.news.RowNews.{RowNews}
 use Rattle.fw_head.specs.declared.news.RowNews.TheVariants.{Nothing, Moved, Done, Failed}
-use Rattle.fw_head.specs.declared.phase.Phase.TheVariants as phase
+use Rattle.fw_book.specs.declared.phase.Phase.TheVariants as phase
 use Rattle.fw_head.specs.Phase.{phase_of, IsLive}
-use Rattle.fw_head.specs.Row.{Row, new_row, reopened_row, sends, ticked, RowHears, RowMayWant, IsPermitted}
+use Rattle.fw_head.specs.Row.{Row, new_row, reopened_row, sends, ticked, RowHears, RowMayWant, IsPermitted, IsFailedBy}
 
 -- the live rows, each under the number of its meter
 abbrev pub Rows : Type 0
@@ -121,14 +122,14 @@ abbrev pub news_of : Campaign → ℕ → RowNews → News
 news_of campaign meter Nothing = news.Nothing
 news_of campaign meter Moved = news.Moved
 news_of campaign meter (Done claim) = news.Done campaign meter
-news_of campaign meter Failed = news.Failed campaign meter
+news_of campaign meter (Failed why) = news.Failed campaign meter
 
 -- The head end once the meter's row became this one. A row that ended is marked in the book, and is live no more.
 abbrev pub went_on : Head → ℕ → Row → RowNews → Head
 went_on head meter row Nothing = head
 went_on head meter row Moved = record head { rows = at_meter meter (λ old. row) head.rows }
 went_on head meter row (Done claim) = record head { book = marked head.book row.name.campaign.serial meter state.Done; rows = without_meter meter head.rows }
-went_on head meter row Failed = record head { book = marked head.book row.name.campaign.serial meter state.Failed; rows = without_meter meter head.rows }
+went_on head meter row (Failed why) = record head { book = marked head.book row.name.campaign.serial meter state.Failed; rows = without_meter meter head.rows }
 
 -- the live row of the sender hears the datagram
 pub record HeadTakes (old : Head) (meter : ℕ) (datagram : List ℕ) (told : News) (new : Head) : Type 0 where
@@ -158,6 +159,23 @@ pub record IsDoneBy (head : Head) (meter : ℕ) (datagram : List ℕ) (campaign 
   pub waits : phase_of row.stage ≡ phase.Confirm
   pub claimed : IsClaimed row.client datagram claim
   pub named : name_in head.book campaign ≡ Some claim.name
+
+-- A meter's answer ends its live row of this campaign, for this reason.
+pub record IsGivenUpBy (head : Head) (meter : ℕ) (datagram : List ℕ) (campaign : Campaign) (why : Reason) : Type 0 where
+  pub row : Row
+  pub found : row_of head.rows meter ≡ Some row
+  pub of : row.name.campaign ≡ campaign
+  pub failed : IsFailedBy row datagram why
+
+-- and for some reason
+abbrev pub IsGivenUp : Head → ℕ → List ℕ → Campaign → Type 0
+IsGivenUp head meter datagram campaign = (why : Reason) × IsGivenUpBy head meter datagram campaign why
+
+-- What is told beside the news of a meter's datagram: the reason for which its row is given up, and none if it isn't.
+abbrev pub TellsReason : Head → ℕ → List ℕ → News → Option Reason → Type 0
+TellsReason head meter datagram (news.Failed campaign whose) (Some why) = IsGivenUpBy head meter datagram campaign why
+TellsReason head meter datagram (news.Failed campaign whose) None = ⊥
+TellsReason head meter datagram told reason = reason ≡ None
 
 -- ---- what every head end keeps
 

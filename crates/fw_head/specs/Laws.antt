@@ -8,16 +8,17 @@ use Rattle.fw_book.specs.declared.row.RowState.{RowState}
 use Rattle.fw_book.specs.declared.row.RowState.TheVariants as state
 use Rattle.fw_book.specs.Contents.{Contents, image_in, name_in, state_in}
 use Rattle.fw_book.specs.Changes.{opening_refusal}
+use Rattle.fw_book.specs.declared.notes.Reason.{Reason}
 use Rattle.fw_head.specs.declared.stage.Stage.{Stage}
 use Rattle.fw_head.specs.declared.stage.Stage.TheVariants.{Done, Failed}
 use Rattle.fw_head.specs.declared.news.News.{News}
 use Rattle.fw_head.specs.declared.news.News.TheVariants as of_head
-use Rattle.fw_head.specs.declared.phase.Phase.TheVariants as phase
+use Rattle.fw_book.specs.declared.phase.Phase.TheVariants as phase
 use Rattle.fw_head.specs.declared.news.RowNews.{RowNews}
 use Rattle.fw_head.specs.declared.news.RowNews.TheVariants as news
 use Rattle.fw_head.specs.Phase.{phase_of}
-use Rattle.fw_head.specs.Row.{Row, RowHears}
-use Rattle.fw_head.specs.Head.{Head, HeadHears, IsDoneBy, IsHead, row_of, restarted, asking_first, BeginsWith, cancelled_head, new_head, opened_head, ticked_head}
+use Rattle.fw_head.specs.Row.{Row, RowHears, IsFailedBy}
+use Rattle.fw_head.specs.Head.{Head, HeadHears, IsDoneBy, IsGivenUp, IsHead, row_of, restarted, asking_first, BeginsWith, cancelled_head, new_head, opened_head, ticked_head}
 use Rattle.fw_head.specs.Parts.{AreLiveRows, by_meter, with_ends, joined}
 
 -- a row and a datagram determine what is reported, and the row afterwards
@@ -49,12 +50,26 @@ DoneByClaim =
     → ¬ (phase_of old.stage ≡ phase.Done) → RowHears old datagram told new
     → (told ≡ news.Done claim) ↔ IsConfirmedBy old datagram claim
 
+-- a row that hasn't failed becomes so exactly if its meter's answer ends it, and for that reason
+abbrev pub FailedByAnswer : Type 0
+FailedByAnswer =
+    (old new : Row) (datagram : List ℕ) (told : RowNews) (why : Reason)
+    → ¬ (phase_of old.stage ≡ phase.Failed) → RowHears old datagram told new
+    → (told ≡ news.Failed why) ↔ IsFailedBy old datagram why
+
 -- a meter is reported done exactly if its own answer claims what the campaign offers
 abbrev pub ReportedByClaim : Type 0
 ReportedByClaim =
     (old new : Head) (from : ℕ) (datagram : List ℕ) (told : News) (campaign : Campaign) (meter : ℕ)
     → IsHead old → HeadHears old from datagram told new
     → (told ≡ of_head.Done campaign meter) ↔ ((meter ≡ from) × IsDoneBy old meter datagram campaign)
+
+-- a meter is reported failed exactly if its own answer ends its row
+abbrev pub ReportedByAnswer : Type 0
+ReportedByAnswer =
+    (old new : Head) (from : ℕ) (datagram : List ℕ) (told : News) (campaign : Campaign) (meter : ℕ)
+    → IsHead old → HeadHears old from datagram told new
+    → (told ≡ of_head.Failed campaign meter) ↔ ((meter ≡ from) × IsGivenUp old meter datagram campaign)
 
 -- ---- a head end that is parted and put together
 
@@ -78,7 +93,7 @@ PutBackInOrder = (head : Head) → IsHead head → joined head.book head.width (
 -- the state that a book has of a row in this stage
 abbrev pub state_of_stage : Stage → RowState
 state_of_stage (Done claim) = state.Done
-state_of_stage Failed = state.Failed
+state_of_stage (Failed why) = state.Failed
 state_of_stage stage = state.Live
 
 -- What the ends of its live rows make of a book. No image changes, and no name. Each of the rows has the state of its stage, and every

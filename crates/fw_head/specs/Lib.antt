@@ -1,5 +1,6 @@
 -- Public vocabulary: the words of public clauses, for callers and readers.
 pub mod Phase
+pub mod Reason
 pub mod Row
 pub mod Head
 pub mod Parts

@@ -27,7 +27,7 @@ still_live rows = filter (λ (entry : ℕ × Row). not (has_ended entry.1.stage)
 -- the book with the end of a meter's row marked, if this stage is one
 abbrev pub with_end : Contents → ℕ → ℕ → Stage → Contents
 with_end book serial meter (Done claim) = marked book serial meter state.Done
-with_end book serial meter Failed = marked book serial meter state.Failed
+with_end book serial meter (Failed why) = marked book serial meter state.Failed
 with_end book serial meter stage = book
 
 -- the book with the ends of these rows marked

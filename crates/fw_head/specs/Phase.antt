@@ -9,12 +9,12 @@ use Rattle.fw_client.specs.Ask as ask
 use Rattle.fw_client.specs.declared.ask.Asked.TheVariants as asked
 use Rattle.fw_client.specs.declared.heard.Heard.{Heard}
 use Rattle.fw_client.specs.declared.heard.Heard.TheVariants as heard
-use Rattle.fw_head.specs.declared.phase.Phase.{Phase}
-use Rattle.fw_head.specs.declared.phase.Phase.TheVariants as phase
+use Rattle.fw_book.specs.declared.phase.Phase.{Phase}
+use Rattle.fw_book.specs.declared.phase.Phase.TheVariants as phase
 use Rattle.fw_head.specs.declared.stage.Stage.{Stage}
 use Rattle.fw_head.specs.declared.stage.Stage.TheVariants.{Size, Enable, Start, Blocks, Check, Gaps, Verify, Poll, Info, Activate, Confirm, Done, Failed}
 use Rattle.fw_head.specs.declared.answers.Step.{Step}
-use Rattle.fw_head.specs.declared.answers.Step.TheVariants.{Stay, Took, Move, Return}
+use Rattle.fw_head.specs.declared.answers.Step.TheVariants.{Stay, Took, Move, Return, Fail}
 
 -- the phase without what is known in it
 abbrev pub phase_of : Stage → Phase
@@ -30,18 +30,18 @@ phase_of (Info g) = phase.Info
 phase_of (Activate g) = phase.Activate
 phase_of (Confirm g) = phase.Confirm
 phase_of (Done claim) = phase.Done
-phase_of Failed = phase.Failed
+phase_of (Failed why) = phase.Failed
 
 -- the row has not ended
 abbrev pub IsLive : Stage → Type 0
 IsLive (Done claim) = ⊥
-IsLive Failed = ⊥
+IsLive (Failed why) = ⊥
 IsLive stage = Unit {0}
 
 -- the row is done, or was given up
 abbrev pub has_ended : Stage → Bool
 has_ended (Done claim) = true
-has_ended Failed = true
+has_ended (Failed why) = true
 has_ended stage = false
 
 -- ---- what a tick asks
@@ -64,7 +64,7 @@ asks_in name size image width (Info g) = ask.info ∷ []
 asks_in name size image width (Activate g) = ask.activate ∷ []
 asks_in name size image width (Confirm g) = ask.active_name ∷ []
 asks_in name size image width (Done claim) = []
-asks_in name size image width Failed = []
+asks_in name size image width (Failed why) = []
 
 -- A row that asks first which image runs asks at once which blocks the meter has, since what runs may have no name by which it is heard.
 abbrev pub asks_first_in : Name → ℕ → List ℕ → ℕ → Stage → Bool → List ask.Ask
@@ -116,9 +116,9 @@ rows name size stage h = []
 
 -- where any other answer leads
 abbrev pub otherwise : Stage → Step
-otherwise Size = Move Failed
-otherwise (Enable g) = Move Failed
-otherwise (Start g) = Move Failed
+otherwise Size = Fail
+otherwise (Enable g) = Fail
+otherwise (Start g) = Fail
 otherwise (Blocks g known) = Return g
 otherwise (Check g) = Return g
 otherwise (Gaps g) = Return g
@@ -128,7 +128,7 @@ otherwise (Info g) = Return g
 otherwise (Activate g) = Move (Confirm g)
 otherwise (Confirm g) = Return g
 otherwise (Done claim) = Stay
-otherwise Failed = Stay
+otherwise (Failed why) = Stay
 
 -- the first row whose fact holds, or the last step if none does
 abbrev pub First : List ((Type 0) × Step) → Step → Step → Type 0

@@ -36,7 +36,7 @@ StageHolds Cut Ends (Info g) = Cut g
 StageHolds Cut Ends (Activate g) = Cut g
 StageHolds Cut Ends (Confirm g) = Cut g
 StageHolds Cut Ends (Done claim) = Ends claim
-StageHolds Cut Ends Failed = Unit {0}
+StageHolds Cut Ends (Failed why) = Unit {0}
 
 -- and of the stage that a step leads to
 abbrev pub StepHolds : (Partition → Type 0) → (Claim → Type 0) → Step → Type 0
@@ -67,7 +67,7 @@ IsAsking Size = Unit {0}
 IsAsking (Enable g) = Unit {0}
 IsAsking (Confirm g) = Unit {0}
 IsAsking (Done claim) = Unit {0}
-IsAsking Failed = Unit {0}
+IsAsking (Failed why) = Unit {0}
 IsAsking stage = ⊥
 
 -- and the steps from them

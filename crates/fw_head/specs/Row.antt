@@ -1,5 +1,5 @@
 -- Public vocabulary: the row machine. What a tick and a datagram make of a row, a head end's work on one meter.
-use Rattle.std.specs.Prelude.{◌≡◌, ℕ, ◌+◌, ◌<◌, nat_lt, ◌⊎◌, Bool, true, false, List, [], ◌∷◌, map, length, slice_set, Option, Some, None, if◌then◌else◌}
+use Rattle.std.specs.Prelude.{◌≡◌, ℕ, ◌+◌, ◌<◌, ◌≤◌, nat_lt, ◌⊎◌, Bool, true, false, List, [], ◌∷◌, map, length, slice_set, Option, Some, None, if◌then◌else◌}
 use Rattle.std.specs.Global.{Vec}
 use Rattle.fw_names.specs.Name.{Name}
 use Rattle.fw_blocks.specs.Cuts.{Partition, IsWithinLimits, block_count, cut}
@@ -10,13 +10,16 @@ use Rattle.fw_client.specs.Ask.{Ask, initiate, block, request_of, kind_of, Carri
 use Rattle.fw_client.specs.State.{State, fresh, asking, forgetting, invoke_byte}
 use Rattle.fw_client.specs.Hearing.{Takes, AnswersNone, MayCarryData}
 use Rattle.fw_client.specs.declared.heard.Heard.{Heard}
+use Rattle.fw_book.specs.declared.notes.Answer.{Answer}
+use Rattle.fw_book.specs.declared.notes.Reason.{Reason}
 use Rattle.fw_head.specs.declared.stage.Stage.{Stage}
 use Rattle.fw_head.specs.declared.stage.Stage.TheVariants.{Size, Start, Blocks, Gaps, Confirm, Done, Failed}
 use Rattle.fw_head.specs.declared.answers.Step.{Step}
-use Rattle.fw_head.specs.declared.answers.Step.TheVariants.{Stay, Took, Move, Return}
+use Rattle.fw_head.specs.declared.answers.Step.TheVariants.{Stay, Took, Move, Return, Fail}
 use Rattle.fw_head.specs.declared.news.RowNews.{RowNews}
 use Rattle.fw_head.specs.declared.news.RowNews.TheVariants as news
-use Rattle.fw_head.specs.Phase.{asks_first_in, Leads, TakesMemory, with_known}
+use Rattle.fw_head.specs.Phase.{phase_of, asks_first_in, Leads, TakesMemory, with_known}
+use Rattle.fw_head.specs.Reason.{answer_of, reason_at}
 
 pub record Row : Type 0 where
   -- the name and the size of the image that the meter is to run
@@ -41,7 +44,12 @@ abbrev pub claim_in : Stage → Option Claim
 claim_in (Done claim) = Some claim
 claim_in stage = None
 
--- the number of returns that ends a row (own)
+-- why a row failed, if it did
+abbrev pub reason_in : Stage → Option Reason
+reason_in (Failed why) = Some why
+reason_in stage = None
+
+-- the eighth return ends a row (own)
 abbrev pub max_returns : ℕ
 max_returns = 8
 
@@ -109,12 +117,12 @@ pub record IsPermitted (name : Name) (image datagram : List ℕ) : Type 0 where
 abbrev pub moved : Row → Stage → Row
 moved row stage = record row { stage = stage; client = forgetting row.client }
 
--- a return to Start is counted, and the last one makes the row failed instead
-abbrev pub returned : Row → Partition → Row
-returned row g =
+-- a return to Start is counted, and the last one makes the row failed instead, for this reason
+abbrev pub returned : Row → Partition → Reason → Row
+returned row g why =
     if nat_lt (row.returns + 1) max_returns
     then record (moved row (Start g)) { returns = row.returns + 1 }
-    else moved row Failed
+    else moved row (Failed why)
 
 -- the stage once the meter took the block of this number
 abbrev pub with_block : Stage → ℕ → Stage
@@ -126,12 +134,13 @@ abbrev pub settled : Row → Stage → Row
 settled row (Blocks g known) = record row { stage = Blocks g known }
 settled row stage = moved row stage
 
--- the row after a step of the table
-abbrev pub went : Row → Step → Row
-went row Stay = row
-went row (Took number) = settled row (with_block row.stage number)
-went row (Move stage) = moved row stage
-went row (Return g) = returned row g
+-- the row after a step of the table; if the step ends it, for this reason
+abbrev pub went : Row → Step → Reason → Row
+went row Stay why = row
+went row (Took number) why = settled row (with_block row.stage number)
+went row (Move stage) why = moved row stage
+went row (Return g) why = returned row g why
+went row Fail why = moved row (Failed why)
 
 -- in place of starting, it is asked which image runs
 abbrev pub confirm_first : Stage → Stage
@@ -140,29 +149,36 @@ confirm_first stage = stage
 
 -- So it is with a row that asks first, except that it doesn't start before it has asked which image runs. If that isn't its own, it
 -- asks which blocks the meter has, which is no return, and then it has asked.
-abbrev pub asked_first : Row → Step → Row
-asked_first row (Move stage) = moved row (confirm_first stage)
-asked_first row (Return g) = moved (record row { asks_first = false }) (Gaps g)
-asked_first row step = went row step
+abbrev pub asked_first : Row → Step → Reason → Row
+asked_first row (Move stage) why = moved row (confirm_first stage)
+asked_first row (Return g) why = moved (record row { asks_first = false }) (Gaps g)
+asked_first row step why = went row step why
 
 -- the row after a step
-abbrev pub stepped : Row → Step → Row
-stepped row step = if row.asks_first then asked_first row step else went row step
+abbrev pub stepped : Row → Step → Reason → Row
+stepped row step why = if row.asks_first then asked_first row step why else went row step why
 
 -- what is reported of an answer that led to this stage
 abbrev pub news_in : Stage → RowNews
 news_in (Done claim) = news.Done claim
-news_in Failed = news.Failed
+news_in (Failed why) = news.Failed why
 news_in stage = news.Moved
 
--- the client takes an answer, and the row goes where it leads
+-- why a row is given up, if this is reported of it
+abbrev pub reason_of : RowNews → Option Reason
+reason_of (news.Failed why) = Some why
+reason_of told = None
+
+-- The client takes an answer, and the row goes where it leads. If it ends there as failed, the answer is why.
 pub record RowTakes (old : Row) (datagram : List ℕ) (told : RowNews) (new : Row) : Type 0 where
   pub heard : Heard
   pub client : State
+  pub answer : Answer
   pub step : Step
   pub takes : Takes old.client datagram heard client
+  pub answered : answer_of heard ≡ Some answer
   pub leads : Leads old.name old.size old.stage heard step
-  pub new_is : new ≡ stepped (record old { client = client }) step
+  pub new_is : new ≡ stepped (record old { client = client }) step (reason_at old.stage answer)
   pub told_is : told ≡ news_in new.stage
 
 -- a datagram that answers no ask changes nothing
@@ -183,3 +199,22 @@ pub record TakesList (row : Row) (datagram : List ℕ) : Type 0 where
 -- A row may take memory for a datagram only if its client may, or for such a list.
 abbrev pub RowMayWant : Row → List ℕ → Type 0
 RowMayWant row datagram = MayCarryData datagram ⊎ TakesList row datagram
+
+-- ---- why a row fails
+
+-- In this row the step ends it: the phase has no place for the answer; or it makes the row return, once more than it may.
+abbrev pub FailsAt : Row → Step → Type 0
+FailsAt row Fail = Unit {0}
+FailsAt row (Return g) = (row.asks_first ≡ false) × (max_returns ≤ row.returns + 1)
+FailsAt row step = ⊥
+
+-- A row is given up for this reason: its meter gave this answer in this phase, and that ends it.
+pub record IsFailedBy (row : Row) (datagram : List ℕ) (why : Reason) : Type 0 where
+  pub heard : Heard
+  pub client : State
+  pub step : Step
+  pub takes : Takes row.client datagram heard client
+  pub answered : answer_of heard ≡ Some why.answer
+  pub in_phase : phase_of row.stage ≡ why.phase
+  pub leads : Leads row.name row.size row.stage heard step
+  pub fails : FailsAt row step

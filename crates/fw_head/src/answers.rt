@@ -24,6 +24,8 @@ pub(crate) enum Step {
     Move(Stage),
     /// The row returns to `Start`.
     Return(Geometry),
+    /// The row is given up.
+    Fail,
 }
 
 /// Where an answer leads from a stage of the row of this image.
@@ -49,7 +51,7 @@ pub(crate) fn next_step(
         Stage::Info(geometry) => Ok(from_info(name, *geometry, heard)),
         Stage::Activate(geometry) => Ok(Step::Move(Stage::Confirm(*geometry))),
         Stage::Confirm(geometry) => Ok(from_confirm(name, *geometry, heard)),
-        Stage::Done(_) | Stage::Failed => Ok(Step::Stay),
+        Stage::Done(_) | Stage::Failed(_) => Ok(Step::Stay),
     }
 }
 
@@ -60,9 +62,9 @@ fn from_size(size: u32, heard: Heard) -> Step
     match heard {
         Heard::Number(block_size) => match Geometry::new(block_size, size) {
             Some(geometry) => Step::Move(Stage::Enable(geometry)),
-            None => Step::Move(Stage::Failed),
+            None => Step::Fail,
         },
-        _ => Step::Move(Stage::Failed),
+        _ => Step::Fail,
     }
 }
 
@@ -72,7 +74,7 @@ fn from_enable(geometry: Geometry, heard: Heard) -> Step
 {
     match heard {
         Heard::Code { code: SUCCESS, .. } => Step::Move(Stage::Start(geometry)),
-        _ => Step::Move(Stage::Failed),
+        _ => Step::Fail,
     }
 }
 
@@ -90,7 +92,7 @@ fn from_start(alloc: Global, geometry: Geometry, heard: Heard) -> Result<Step, A
             code: TEMPORARY_FAILURE,
             ..
         } => Step::Stay,
-        _ => Step::Move(Stage::Failed),
+        _ => Step::Fail,
     })
 }
 

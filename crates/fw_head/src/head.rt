@@ -10,7 +10,7 @@ ghost use Rattle.fw_book.specs.Changes.{opening_refusal, cancel_refusal, IsRefus
 use crate::ending::expect_marked;
 use crate::error::PutError;
 use crate::laws;
-use crate::news::{News, RowNews};
+use crate::news::{News, RowNews, Told};
 use crate::parts::HeadParts;
 use crate::row::RowCore;
 use crate::rows::Rows;
@@ -61,7 +61,7 @@ impl HeadCore {
     ghost use Rattle.fw_head.specs.Parts.{AreLiveRows, PutRefused, joined};
     ghost use Rattle.fw_head.specs.Head.{IsHead, row_of, RowsMayWant, new_head, campaign_at, opened_head, cancelled_head};
     ghost use Rattle.fw_head.specs.Head.{BeginsWith, has_live_row, HasOutstanding};
-    ghost use Rattle.fw_head.specs.Head.{restarted, sends_to, ticked_head, HeadHears, IsDoneBy, IsOfferedIn};
+    ghost use Rattle.fw_head.specs.Head.{restarted, sends_to, ticked_head, HeadHears, IsDoneBy, TellsReason, IsOfferedIn};
 
     /// A head end of no campaign, that sends up to `width` blocks at a time. It keeps the allocator, and takes no memory.
     pub fn new(alloc: Global, head: HeadId, width: Width) -> HeadCore
@@ -176,23 +176,57 @@ impl HeadCore {
         ensures memory { OnErr result (RowsMayWant self.old.rows from datagram.now) }
     {
         laws::reported_by_claim();
+        match self.take(alloc, from, datagram) {
+            Ok(told) => Ok(told.news),
+            Err(refused) => Err(refused),
+        }
+    }
+
+    /// Hears a datagram as `hear` does, and tells beside the news why a row is given up.
+    ///
+    /// # Errors
+    ///
+    /// Those of `hear`. The head end is then as before.
+    pub fn hear_why(
+        &mut self,
+        alloc: Global,
+        from: MeterId,
+        datagram: &[u8],
+    ) -> Result<Told, OutOfMemory>
+        ensures heard { IfOk result (λ told. HeadHears self.old from datagram.now told.news self.new) }
+        ensures done { IfOk result (λ told. (campaign : Campaign) (meter : ℕ) → (told.news ≡ News.Done campaign meter)
+            ↔ ((meter ≡ from) × IsDoneBy self.old meter datagram.now campaign)) }
+        // The reason is that of the row which is given up, and there is none if no row is.
+        ensures reason { IfOk result (λ told. TellsReason self.old from datagram.now told.news told.reason) }
+        ensures same { OnErr result (self.new ≡ self.old) }
+        ensures memory { OnErr result (RowsMayWant self.old.rows from datagram.now) }
+    {
+        laws::reported_by_claim();
         self.take(alloc, from, datagram)
     }
 
     /// The live row of a meter hears a datagram, and the book notes where it ended.
-    fn take(&mut self, alloc: Global, from: MeterId, datagram: &[u8]) -> Result<News, OutOfMemory>
+    fn take(&mut self, alloc: Global, from: MeterId, datagram: &[u8]) -> Result<Told, OutOfMemory>
         ensures was { IsHead self.old }
-        ensures heard { IfOk result (λ told. HeadHears self.old from datagram.now told self.new) }
+        ensures heard { IfOk result (λ told. HeadHears self.old from datagram.now told.news self.new) }
+        ensures reason { IfOk result (λ told. TellsReason self.old from datagram.now told.news told.reason) }
         ensures same { OnErr result (self.new ≡ self.old) }
         ensures memory { OnErr result (RowsMayWant self.old.rows from datagram.now) }
     {
         fw_book::laws::states_follow();
         fw_book::laws::images_stay();
+        laws::failed_by_answer();
         let campaign = match self.rows.get(from) {
             Some(row) => row.name().campaign,
-            None => return Ok(News::Nothing),
+            None => {
+                return Ok(Told {
+                    news: News::Nothing,
+                    reason: None,
+                });
+            }
         };
-        Ok(match self.rows.hear(alloc, from, datagram)? {
+        let heard = self.rows.hear(alloc, from, datagram)?;
+        let news = match heard {
             RowNews::Nothing => News::Nothing,
             RowNews::Moved => News::Moved,
             RowNews::Done(claim) => {
@@ -200,11 +234,15 @@ impl HeadCore {
                 self.rows.end(from);
                 News::Done(campaign, from)
             }
-            RowNews::Failed => {
+            RowNews::Failed(_) => {
                 expect_marked(self.book.mark_failed(campaign, from));
                 self.rows.end(from);
                 News::Failed(campaign, from)
             }
+        };
+        Ok(Told {
+            news,
+            reason: heard.reason(),
         })
     }
 

@@ -1,6 +1,6 @@
 //! Laws of a row and of a head end, over the definitions alone. A caller cites a law by calling it: nothing is done.
 
-ghost use Rattle.fw_head.specs.Laws.{OneRow, RowKeepsGoal, DoneByClaim, ReportedByClaim, PutBack, PutBackInOrder, EndsAreMarked, BeginsRestarted, HeadsStay};
+ghost use Rattle.fw_head.specs.Laws.{OneRow, RowKeepsGoal, DoneByClaim, FailedByAnswer, ReportedByClaim, ReportedByAnswer, PutBack, PutBackInOrder, EndsAreMarked, BeginsRestarted, HeadsStay};
 
 /// A row and a datagram determine what is reported, and the row afterwards.
 pub fn one_row()
@@ -21,11 +21,26 @@ pub fn done_by_claim()
     fw_client::laws::only_claimed();
 }
 
+/// A row that hasn't failed becomes so exactly if its meter's answer ends it, and for that reason: the phase that the row is in,
+/// and the answer.
+pub fn failed_by_answer()
+    ensures { FailedByAnswer }
+{
+    fw_client::laws::one_hearing();
+}
+
 /// Whatever a head end hears, it reports a meter as done exactly if that meter's own answer claims what the campaign offers.
 pub fn reported_by_claim()
     ensures { ReportedByClaim }
 {
     done_by_claim();
+}
+
+/// Whatever a head end hears, it reports a meter as failed exactly if that meter's own answer ends its row.
+pub fn reported_by_answer()
+    ensures { ReportedByAnswer }
+{
+    failed_by_answer();
 }
 
 /// A head end that is put together of its own book, width and live rows is as before, in whatever order the rows come: the book with

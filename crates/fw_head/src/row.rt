@@ -8,17 +8,17 @@ use crate::answers::{Step, next_step};
 use crate::asks::{ask_blocks, ask_one, ask_two};
 use crate::ending::expect_marked;
 use crate::news::RowNews;
-use crate::phase::Phase;
+use crate::reason::answer_of;
 use crate::stage::Stage;
 use fw_blocks::{Geometry, Width, Window};
-use fw_book::Book;
-use fw_client::{ActiveClaim, Ask, Client, Heard, OutOfMemory};
+use fw_book::{Book, Phase, Reason};
+use fw_client::{ActiveClaim, Ask, Client, OutOfMemory};
 use fw_names::{ImageName, MeterId};
 use std::alloc::Global;
 use std::marker::Model;
 use std::mem;
 
-/// How many returns to `Start` end a row.
+/// The eighth return to `Start` ends a row.
 const MAX_RETURNS: u8 = 8;
 
 /// A head end's work on one meter for one campaign.
@@ -63,6 +63,7 @@ impl RowCore {
       datagrams,
       asking_all,
       claim_in,
+      reason_in,
       IsClaimOf,
     };
     ghost use Rattle.fw_head.specs.Phase.{phase_of, has_ended, IsLive};
@@ -129,6 +130,13 @@ impl RowCore {
         self.stage.claim()
     }
 
+    /// Why the row was given up, if it was: the phase that it was in, and what its meter answered then.
+    pub fn reason(&self) -> Option<Reason>
+        ensures { result ≡ reason_in self.now.stage }
+    {
+        self.stage.reason()
+    }
+
     /// Whether an ask of the row is outstanding: no answer to it came since the last tick or move.
     pub fn is_waiting(&self) -> bool
         ensures { MatchBool result (IsWaiting self.now.client) (¬ IsWaiting self.now.client) }
@@ -157,7 +165,7 @@ impl RowCore {
     {
         match &self.stage {
             Stage::Done(claim) => expect_marked(book.mark_done(self.name.campaign, *claim)),
-            Stage::Failed => expect_marked(book.mark_failed(self.name.campaign, self.meter())),
+            Stage::Failed(_) => expect_marked(book.mark_failed(self.name.campaign, self.meter())),
             _ => {}
         }
     }
@@ -233,7 +241,7 @@ impl RowCore {
                 return ask_two(alloc, client, &Ask::ActiveName, &Ask::Blocks);
             }
             Stage::Confirm(_) => Ask::ActiveName,
-            Stage::Done(_) | Stage::Failed => return Ok(Vec::new(alloc)),
+            Stage::Done(_) | Stage::Failed(_) => return Ok(Vec::new(alloc)),
         };
         ask_one(alloc, client, &ask)
     }
@@ -253,34 +261,38 @@ impl RowCore {
     {
         let mut client = self.client.duplicate();
         let heard = client.hear(alloc, datagram)?;
-        if let Heard::Stranger = heard {
+        let Some(answer) = answer_of(&heard) else {
             return Ok(RowNews::Nothing);
-        }
+        };
+        let reason = Reason {
+            phase: self.phase(),
+            answer,
+        };
         let step = next_step(alloc, self.name, self.size, &self.stage, heard)?;
         self.client = client;
-        self.take(step);
+        self.take(step, reason);
         Ok(self.stage.news())
     }
 
-    /// Goes where an answer leads.
-    fn take(&mut self, step: Step)
+    /// Goes where an answer leads. If that ends the row, it is the reason.
+    fn take(&mut self, step: Step, reason: Reason)
         requires own { IsOwnStep self.old.client.meter self.old.name self.old.size step }
         requires asking { self.old.asks_first ≡ true → IsAskingStep step }
-        ensures { self.new ≡ stepped self.old step }
+        ensures { self.new ≡ stepped self.old step reason }
     {
         if self.asks_first {
-            self.ask_first(step);
+            self.ask_first(step, reason);
         } else {
-            self.follow(step);
+            self.follow(step, reason);
         }
     }
 
     /// Goes where an answer leads, and asks which image runs before it starts. If that isn't the row's own, asks which blocks the
     /// meter has.
-    fn ask_first(&mut self, step: Step)
+    fn ask_first(&mut self, step: Step, reason: Reason)
         requires own { IsOwnStep self.old.client.meter self.old.name self.old.size step }
         requires asking { IsAskingStep step }
-        ensures { self.new ≡ asked_first self.old step }
+        ensures { self.new ≡ asked_first self.old step reason }
     {
         match step {
             Step::Stay => {}
@@ -290,20 +302,22 @@ impl RowCore {
                 self.asks_first = false;
                 self.go(Stage::Gaps(geometry));
             }
+            Step::Fail => self.go(Stage::Failed(reason)),
         }
     }
 
     /// Goes where the table leads.
-    fn follow(&mut self, step: Step)
+    fn follow(&mut self, step: Step, reason: Reason)
         requires own { IsOwnStep self.old.client.meter self.old.name self.old.size step }
         requires asked { self.old.asks_first ≡ false }
-        ensures { self.new ≡ went self.old step }
+        ensures { self.new ≡ went self.old step reason }
     {
         match step {
             Step::Stay => {}
             Step::Took(number) => self.took(number),
             Step::Move(stage) => self.go(stage),
-            Step::Return(geometry) => self.go_back(geometry),
+            Step::Return(geometry) => self.go_back(geometry, reason),
+            Step::Fail => self.go(Stage::Failed(reason)),
         }
     }
 
@@ -312,7 +326,7 @@ impl RowCore {
         requires { self.old.asks_first ≡ false }
         ensures { self.new ≡ settled self.old (with_block self.old.stage number) }
     {
-        let stage = mem::replace(&mut self.stage, Stage::Failed);
+        let stage = mem::replace(&mut self.stage, Stage::Size);
         match stage.with_block(number) {
             Stage::Blocks(geometry, known) => self.stage = Stage::Blocks(geometry, known),
             stage => self.go(stage),
@@ -329,17 +343,17 @@ impl RowCore {
         self.stage = stage;
     }
 
-    /// Returns to `Start`, or gives up at the last return.
-    fn go_back(&mut self, geometry: Geometry)
+    /// Returns to `Start`, or gives up at the last return, for this reason.
+    fn go_back(&mut self, geometry: Geometry, reason: Reason)
         requires cut { IsCutOf self.old.size geometry }
         requires asked { self.old.asks_first ≡ false }
-        ensures { self.new ≡ returned self.old geometry }
+        ensures { self.new ≡ returned self.old geometry reason }
     {
         if self.returns + 1 < MAX_RETURNS {
             self.returns += 1;
             self.go(Stage::Start(geometry));
         } else {
-            self.go(Stage::Failed);
+            self.go(Stage::Failed(reason));
         }
     }
 }

@@ -2,16 +2,16 @@
 
 ghost use Rattle.std.specs.Prelude.{◌≡◌};
 ghost use Rattle.fw_head.specs.Phase.{phase_of, has_ended, with_known};
-ghost use Rattle.fw_head.specs.Row.{claim_in, confirm_first, news_in, with_block};
+ghost use Rattle.fw_head.specs.Row.{claim_in, reason_in, confirm_first, news_in, with_block};
 
 use crate::news::RowNews;
-use crate::phase::Phase;
 use fw_blocks::{BlockSet, Geometry};
+use fw_book::{Phase, Reason};
 use fw_client::ActiveClaim;
 use std::fmt;
 
 /// A phase with what is known in it: from `Enable` on how the image is cut into blocks, in `Blocks` which of them the meter has,
-/// and once the row is done the claim that ended it.
+/// and once the row is done the claim that ended it, or once it was given up why.
 #[derive(Drop)]
 pub(crate) enum Stage {
     Size,
@@ -26,7 +26,7 @@ pub(crate) enum Stage {
     Activate(Geometry),
     Confirm(Geometry),
     Done(ActiveClaim),
-    Failed,
+    Failed(Reason),
 }
 
 /// Its phase stands for it.
@@ -53,7 +53,7 @@ impl Stage {
             Stage::Activate(_) => Phase::Activate,
             Stage::Confirm(_) => Phase::Confirm,
             Stage::Done(_) => Phase::Done,
-            Stage::Failed => Phase::Failed,
+            Stage::Failed(_) => Phase::Failed,
         }
     }
 
@@ -67,12 +67,22 @@ impl Stage {
         }
     }
 
+    /// Why the row was given up, if it was.
+    pub(crate) fn reason(&self) -> Option<Reason>
+        ensures { result ≡ reason_in self.now }
+    {
+        match self {
+            Stage::Failed(reason) => Some(*reason),
+            _ => None,
+        }
+    }
+
     /// Whether the row is done or was given up.
     pub(crate) fn has_ended(&self) -> bool
         ensures { result ≡ has_ended self.now }
     {
         match self {
-            Stage::Done(_) | Stage::Failed => true,
+            Stage::Done(_) | Stage::Failed(_) => true,
             _ => false,
         }
     }
@@ -83,7 +93,7 @@ impl Stage {
     {
         match self {
             Stage::Done(claim) => RowNews::Done(*claim),
-            Stage::Failed => RowNews::Failed,
+            Stage::Failed(reason) => RowNews::Failed(*reason),
             _ => RowNews::Moved,
         }
     }

@@ -1,7 +1,8 @@
--- Public vocabulary: the clock of a port.
+-- Public vocabulary: the clock of a port, and the date.
 use Rattle.std.specs.Prelude.{ℕ, ◌-◌, ◌/◌, ◌^◌, Option, None, Some, min}
-use Rattle.std.specs.Time.{instant_nanos}
+use Rattle.std.specs.Time.{instant_nanos, system_time_nanos}
 use Rattle.std.specs.declared.time.Instant.{Instant}
+use Rattle.std.specs.declared.time.SystemTime.{SystemTime}
 
 -- the microseconds from one moment to another, as far as 64 bits count them
 abbrev pub micros_between : Instant → Instant → ℕ
@@ -11,3 +12,8 @@ micros_between began now = min ((instant_nanos now - instant_nanos began) / 1000
 abbrev pub reading : Option Instant → Option Instant → Option ℕ
 reading (Some began) (Some now) = Some (micros_between began now)
 reading began now = None
+
+-- the seconds since 1970 began (UTC), when the system says this, and 0 if it says nothing
+abbrev pub date_of : Option SystemTime → ℕ
+date_of None = 0
+date_of (Some now) = system_time_nanos now / 10 ^ 9

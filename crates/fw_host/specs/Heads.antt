@@ -10,6 +10,7 @@ use Rattle.fw_rollout.specs.declared.ended.Ended.{Ended}
 use Rattle.fw_rollout.specs.Leading.{state_after}
 use Rattle.fw_faults.specs.declared.fault.Fault.{Fault}
 use Rattle.fw_faults.specs.declared.fault.Fault.TheVariants.{BadList, BadSetup, BookExists, BookFault, BadBook, BadKeys, BadRecord, CancelRefused, CaptureFault, CounterExists, CounterFault, CounterLocked, CounterSpent, ForeignCapture, ForeignHead, Full, ImageFault, KeysFault, KeysReadable, ListFault, Locked, NoAddress, NoBook, NoCounter, NoKey, OpenRefused, Output, OutOfMemory, Socket}
+use Rattle.fw_report.specs.Failure.{why_words}
 use Rattle.fw_report.specs.Report.{state_word}
 
 -- ---- the lines of `head`
@@ -23,11 +24,11 @@ opened_line name =
 abbrev pub cancelled_line : Campaign → List ℕ
 cancelled_line campaign = codes "cancelled " ++ (decimal campaign.head ++ (codes " " ++ (decimal campaign.serial ++ codes "\n")))
 
--- a row that ended, as a report has it
+-- a row that ended, as a report has it, with why it failed, if it did
 abbrev pub ended_line : Ended → List ℕ
 ended_line ended =
     codes "row " ++ (decimal ended.campaign.head ++ (codes " " ++ (decimal ended.campaign.serial ++ (codes " " ++ (decimal ended.meter
-    ++ (codes " " ++ (state_word (state_after ended.ending) ++ codes "\n")))))))
+    ++ (codes " " ++ (state_word (state_after ended.ending) ++ (why_words ended.end.reason ++ codes "\n"))))))))
 
 -- how many rows were reported as done and as failed
 abbrev pub over_line : Counts → List ℕ
@@ -54,7 +55,7 @@ LeavesNewBook may_leave device = (head : ℕ) × ((left : List ℕ) → may_leav
 
 -- ---- the faults
 
--- of the opening of a book that is there
+-- of the opening of a book that is there: `Locked` is the lock on a book, if another process has it
 abbrev pub IsOfOldBook : Fault → Type 0
 IsOfOldBook NoBook = Unit {0}
 IsOfOldBook Locked = Unit {0}

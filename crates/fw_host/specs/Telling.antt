@@ -1,4 +1,5 @@
--- Public vocabulary: lines that are written one after another, and what is left of one that can't be written.
+-- Public vocabulary: lines that are written one after another, and what is left of one that can't be written. The progress line has no
+-- definition.
 use Rattle.std.specs.Prelude.{◌≡◌, ℕ, Bool, false, List, [], ◌∷◌, ◌++◌, Option, map}
 use Rattle.std.specs.List.{concat}
 use Rattle.std.specs.Io.KnownBytes.{Appends}

@@ -44,8 +44,8 @@ pub struct BookOptions<'a> {
 ///
 /// # Errors
 ///
-/// - `Locked`: another head end has the book. `BookFault`: its file can't be made, opened, read, written or synced, it can't be written anew
-///   as FILE.new, or what is to be cut off it can't be kept. Both have their reason, if it is known.
+/// - `Locked`: the lock on a book is another process's. `BookFault`: its file can't be made, opened, read, written or synced, it can't be
+///   written anew as FILE.new, or what is to be cut off it can't be kept. Both have their reason, if it is known.
 /// - Of a book that is there `NoBook`, `BadBook`, `BadRecord` and `ForeignHead`: the file has no book that this head end may begin with.
 ///   It is left as it is, or as a journal of the same records.
 /// - Of a new one `BookExists`.

@@ -7,7 +7,7 @@ ghost use Rattle.fw_host.specs.Heads.{cancelled_line, ended_line, kept_line, ope
 use fw_book::RowState;
 use fw_ledger::Ending;
 use fw_names::{CampaignId, ImageName};
-use fw_report::{head_number, state_word};
+use fw_report::{append_why, head_number, state_word};
 use fw_rollout::{Counts, Ended};
 use std::alloc::{AllocError, Global};
 
@@ -29,7 +29,7 @@ pub(crate) fn cancelled_line(alloc: Global, campaign: CampaignId) -> Result<Stri
     format!(in alloc; "cancelled {head} {serial}\n")
 }
 
-/// The line of a row that ended, as a report has it.
+/// The line of a row that ended, as a report has it, with why it failed, if it did.
 pub(crate) fn ended_line(alloc: Global, ended: Ended) -> Result<String, AllocError>
     ensures { IfOk result (λ text. string_bytes text ≡ ended_line ended) }
 {
@@ -37,10 +37,14 @@ pub(crate) fn ended_line(alloc: Global, ended: Ended) -> Result<String, AllocErr
         campaign,
         meter,
         ending,
+        end,
     } = ended;
     let (head, serial) = (head_number(campaign), campaign.serial());
     let (number, state) = (meter.number(), state_word(state_after(ending)));
-    format!(in alloc; "row {head} {serial} {number} {state}\n")
+    let mut line = format!(in alloc; "row {head} {serial} {number} {state}")?;
+    append_why(&mut line, end.reason)?;
+    line.push_str("\n")?;
+    Ok(line)
 }
 
 /// The line at the end of the command.

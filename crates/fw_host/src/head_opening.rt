@@ -18,10 +18,11 @@ ghost use Rattle.std.specs.Prelude.{
 ghost use Rattle.fw_names.specs.Name.{name_of};
 ghost use Rattle.fw_book.specs.Changes.{cancel_refusal, opening_refusal};
 ghost use Rattle.fw_book.specs.Contents.{Contents};
+ghost use Rattle.fw_book.specs.Notes.{with_opening};
 ghost use Rattle.fw_book.specs.Rows.{meters_of};
 ghost use Rattle.fw_book.specs.declared.error.BookError.{BookError};
 ghost use Rattle.fw_head.specs.Head.{campaign_at, cancelled_head, opened_head};
-ghost use Rattle.fw_kept.specs.Head.{Holds, book_of, head_of};
+ghost use Rattle.fw_kept.specs.Head.{Holds, book_of, head_of, known_of};
 ghost use Rattle.fw_host.specs.Heads.{IsCancelFault, IsOfLeading, IsOpenFault};
 ghost use Rattle.fw_host.specs.Openings.{ArePartsOf, IsOpenIn, IsTakenBy, OpensPart, PartsRefused, RefusesOne, RefusesPart, campaign_in, listed_meters};
 
@@ -168,7 +169,7 @@ pub fn check_cancel(book: &Book, serial: u32) -> Result<(), Fault>
     }
 }
 
-/// Opens a campaign of an opening. From `Ok` on it is on the device.
+/// Opens a campaign of an opening, `at` these seconds since 1970 began (UTC). From `Ok` on it is on the device, with that time.
 ///
 /// # Errors
 ///
@@ -179,9 +180,11 @@ pub fn open_part<D: JournalDevice>(
     part: &Part,
     release: u32,
     image: &[u8],
+    at: u64,
 ) -> Result<ImageName, Fault>
     ensures opened { OnOk result (head_of kept.new ≡ opened_head (head_of kept.old) part.now.serial release image.now part.now.meters.items) }
     ensures name { IfOk result (λ name. name ≡ name_of (campaign_at (head_of kept.old) part.now.serial) release image.now) }
+    ensures noted { OnOk result (known_of kept.new ≡ with_opening (known_of kept.old) part.now.serial at) }
     ensures acknowledged { (synced : Contents) → Holds D.honest D.contents D.may_leave kept.old synced
         → OnOk result (Holds D.honest D.contents D.may_leave kept.new (book_of kept.new)) }
     ensures same { OnErr result (head_of kept.new ≡ head_of kept.old) }
@@ -189,7 +192,7 @@ pub fn open_part<D: JournalDevice>(
         part.now.meters.items)) }
     ensures faults { IfErr result IsOfLeading }
 {
-    match kept.open_campaign(alloc, part.serial, release, image, &part.meters) {
+    match kept.open_campaign(alloc, part.serial, release, image, &part.meters, at) {
         Ok(name) => Ok(name),
         Err(KeptError::Refused(refusal)) => Err(Fault::OpenRefused(refusal)),
         Err(KeptError::Full) => Err(Fault::Full),
@@ -210,8 +213,11 @@ pub fn open_missing<D: JournalDevice>(
     part: &Part,
     release: u32,
     image: &[u8],
+    at: u64,
 ) -> Result<Option<ImageName>, Fault>
     ensures opened { IfOk result (λ name. OpensPart release image.now part.now (head_of kept.old) name (head_of kept.new)) }
+    ensures noted { IfOk result (λ name. MatchOption name (known_of kept.new ≡ known_of kept.old)
+        (λ _. known_of kept.new ≡ with_opening (known_of kept.old) part.now.serial at)) }
     ensures acknowledged { (synced : Contents) → Holds D.honest D.contents D.may_leave kept.old synced
         → IfOk result (λ name. MatchOption name (kept.new ≡ kept.old) (λ _. Holds D.honest D.contents D.may_leave kept.new (book_of kept.new))) }
     ensures same { OnErr result (head_of kept.new ≡ head_of kept.old) }
@@ -222,7 +228,7 @@ pub fn open_missing<D: JournalDevice>(
     if is_open(kept.head().view().book, part, release, image) {
         return Ok(None);
     }
-    match open_part(alloc, kept, part, release, image) {
+    match open_part(alloc, kept, part, release, image, at) {
         Ok(name) => Ok(Some(name)),
         Err(fault) => Err(fault),
     }

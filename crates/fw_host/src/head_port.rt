@@ -5,6 +5,7 @@ ghost use Rattle.fw_host.specs.Heads.{ended_line};
 ghost use Rattle.fw_host.specs.Telling.{Told};
 
 use crate::datagram_port::{ClosedBy, DatagramPort};
+use crate::dating::date;
 use crate::head_progress::CLEARED;
 use crate::lines::Lines;
 use crate::port_clock::PortClock;
@@ -64,6 +65,11 @@ impl<'a, 'w, C: Clock + Eprint, W: Write, P: DatagramPort + Drop> UdpHeadPort<'a
         ensures { result ≡ self.now.clock.time }
     {
         self.clock.time()
+    }
+
+    /// The date, as the clock of the system has it.
+    pub(crate) fn date_now(&self) -> u64 {
+        date(self.rt)
     }
 
     /// How often the port below failed.

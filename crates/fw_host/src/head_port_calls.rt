@@ -54,6 +54,10 @@ impl<'a, 'w, C: Clock + Eprint, W: Write, P: DatagramPort + Drop> HeadPort
         self.time()
     }
 
+    fn date(&self) -> u64 {
+        self.date_now()
+    }
+
     fn tell(&mut self, ended: Ended) {
         self.tell_timed(ended);
     }

@@ -72,8 +72,8 @@ impl fmt::Display for Figures {
     }
 }
 
-/// How far the command `head` is, as standard error shows it. The line of a terminal is cleared when it is dropped. A write that fails is passed
-/// over.
+/// How far the command `head` is, as standard error shows it. The progress line of a terminal is cleared when it is dropped. A write that
+/// fails is passed over.
 pub struct HeadProgress<'a, E: Eprint> {
     rt: &'a E,
     output: ProgressOutput,

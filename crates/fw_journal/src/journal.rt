@@ -317,6 +317,51 @@ impl<D: JournalDevice> Journal<D> {
         Ok(())
     }
 
+    /// Puts these two records on the device after all that waits, in one group, as `commit_with` puts one.
+    ///
+    /// # Errors
+    ///
+    /// Those of `commit_with`, of either record. Neither of them waits then: the journal is as before, or broken.
+    pub fn commit_both(
+        &mut self,
+        alloc: Global,
+        first: &[u8],
+        second: &[u8],
+    ) -> Result<(), JournalError>
+        ensures acknowledged { (done waiting : List (List ℕ)) → Has D.honest D.contents D.may_leave self.old done waiting
+            → OnOk result (Has D.honest D.contents D.may_leave self.new (done ++ ((waiting ++ first.now ∷ []) ++ second.now ∷ [])) []) }
+        ensures unchanged { (done waiting : List (List ℕ)) → Has D.honest D.contents D.may_leave self.old done waiting
+            → OnErr result (Has D.honest D.contents D.may_leave self.new done waiting ⊎ IsTrue (is_broken self.new)) }
+
+        // A cut at any moment of the call leaves the records from before it, with all that waited and these two, or with none of it.
+        ensures any_moment { (done waiting : List (List ℕ)) → Has D.honest D.contents D.may_leave self.old done waiting
+            → LeavesOnly D.moment D.left_since (device_of self.old) (device_of self.new)
+            (λ left. Stands left done ⊎ Stands left (done ++ ((waiting ++ first.now ∷ []) ++ second.now ∷ []))) }
+
+        // What failed once stays failed.
+        ensures breaks { IsErrOf result JournalError.BookFault → IsTrue (is_broken self.new) }
+        ensures broken { IsTrue (is_broken self.old) → IsErrOf result JournalError.BookFault × (self.new ≡ self.old) }
+
+        // A sound device gives no `BookFault`, unless the journal was broken before.
+        ensures never { IsTrue (D.sound (device_of self.old)) → IsErrOf result JournalError.BookFault → IsTrue (is_broken self.old) }
+        ensures too_long { IsErrOf result JournalError.TooLong → 2 ^ 32 ≤ length first.now ⊎ 2 ^ 32 ≤ length second.now }
+        ensures full { IsErrOf result JournalError.Full → 2 ^ 60 ≤ end_of self.old
+            ⊎ 2 ^ 60 ≤ length (waiting_of self.old) + ((length first.now + 37) + (length second.now + 37)) }
+        ensures refusals { IfErr result (λ e. IsCommitRefusal e ⊎ (e ≡ JournalError.TooLong)) }
+        ensures kept { Keeps D.honest D.sound (device_of self.old) (device_of self.new) }
+    {
+        if self.broken {
+            return Err(JournalError::BookFault);
+        }
+        let before = self.waiting.len();
+        self.append(alloc, first)?;
+        if let Err(refusal) = self.commit_with(alloc, second) {
+            self.take_back(before);
+            return Err(refusal);
+        }
+        Ok(())
+    }
+
     /// Puts other records in the place of all that the device has and of all that wait: the bytes of the journal are made anew beside the
     /// old ones. From `Ok` on every power cut leaves these records alone; a cut in the call leaves those from before it or these.
     ///

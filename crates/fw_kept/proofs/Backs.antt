@@ -62,6 +62,6 @@ module _ {D : Type 0} (honest : D → Bool) (contents : D → List ℕ) (may_lea
   pub holds_backs : (kept : KeptHead D) (synced : Contents) → Holds honest contents may_leave kept synced → IsBacked may_leave kept
   holds_backs kept synced holds left now = record {
     other = synced;
-    has = left_has honest contents may_leave kept.head.book.head kept.journal synced kept.head.book holds.keeps left now;
-    also = same_also kept.head.book synced holds.offers;
+    has = left_has honest contents may_leave kept.head.book.head kept.journal synced kept.head.book holds.0 kept.notes holds.1.keeps left now;
+    also = same_also kept.head.book synced holds.1.offers;
   }

@@ -1,5 +1,5 @@
 -- Books of records that are put together, and what a power cut leaves of them.
-use Rattle.std.proofs.Common.{◌≡◌, ◌⊎◌, inl, ⊎_elim, ℕ, ◌+◌, ◌<◌, ◌≤◌, ◌^◌, ◌*◌, List, [], ◌∷◌, ◌++◌, Option, Some, None, is_none, Err, IsErrOf, Bool, true, false, not, ◌||◌, IsTrue, Vec, length, arith, refl, sym, ap, subst, ◌∙◌, length-append}
+use Rattle.std.proofs.Common.{◌≡◌, ◌⊎◌, inl, ⊎_elim, ℕ, ◌+◌, ◌<◌, ◌≤◌, ◌^◌, ◌*◌, List, [], ◌∷◌, ◌++◌, Option, Some, None, is_none, Err, IsErrOf, Bool, true, false, not, ◌||◌, IsTrue, Vec, length, arith, refl, sym, ap, subst, ◌∙◌, length-append, append_assoc}
 use Rattle.std.specs.Int.{w32, to_be_bytes}
 use Rattle.std.specs.Option.{option_and_then, option_map_or}
 use Rattle.std.specs.declared.alloc.Global.{Global}
@@ -17,10 +17,15 @@ use Rattle.fw_journal.specs.Device.{LeavesOnly}
 use Rattle.fw_journal.specs.Journal as journal
 use Rattle.fw_journal.specs.declared.journal.Journal.{Journal}
 use Rattle.fw_journal.specs.Laws as journal_laws
-use Rattle.fw_ledger.specs.Entry.{Source, whole, earlier, Entry, opening, mark, cancelling, endings, entry_bytes, source_bytes, meters_bytes, opening_front}
+use Rattle.fw_ledger.specs.Entry.{Source, whole, earlier, Entry, opening, mark, cancelling, endings, note, IsNote, Spells, entry_bytes, source_bytes, meters_bytes, opening_front}
+use Rattle.fw_ledger.specs.declared.record.Note.{Note}
+use Rattle.fw_ledger.specs.Note.{note_bytes}
+use Rattle.fw_ledger.specs.Noted.{known_with, AreNotesOf}
+use Rattle.fw_ledger.proofs.NoteSpellings.{note_short}
+use Rattle.fw_book.specs.Notes.{Known}
 use Rattle.fw_ledger.specs.Replay.{MakesEach, Makes, Adds, AddsAll, IsBookOf, records_of}
 use Rattle.fw_ledger.specs.Laws as ledger_laws
-use Rattle.fw_kept.specs.Kept.{HasBook, Keeps}
+use Rattle.fw_kept.specs.Kept.{HasBook, HasNoted, Keeps}
 use Rattle.fw_kept.specs.Laws.{OneBook, RefusedHaveNone}
 use Rattle.fw_journal.specs.Refusals as journal_refusals
 use Rattle.fw_journal.specs.declared.error.JournalError.{JournalError}
@@ -55,6 +60,7 @@ makes_head (opening campaign release source meters) book next makes = ap (λ (c 
 makes_head (mark campaign meter ending) book next makes = ap (λ (c : Contents). c.head) makes.1
 makes_head (cancelling campaign) book next makes = ap (λ (c : Contents). c.head) makes.1
 makes_head (endings campaign numbers) book next makes = each_head (meters_of makes.offer.rows) numbers book campaign next makes.each
+makes_head (note campaign told) book next makes = ap (λ (c : Contents). c.head) makes.1
 
 all_head : (records : List (List ℕ)) (book next : Contents) → AddsAll records book next → next.head ≡ book.head
 all_head [] book next all = ap (λ (c : Contents). c.head) all
@@ -112,23 +118,46 @@ opening_short campaign release source image meters short image_ends meters_end =
       length-append (to_be_bytes w32 release) (source_bytes source),
     )
 
+pub short_note : (campaign : Campaign) (told : Note) → length (entry_bytes (note campaign told)) ≤ 32
+short_note campaign told =
+    let eight : length (campaign_bytes campaign) ≡ 8 = refl in
+    omega (arith, eight, note_short told, length-append (campaign_bytes campaign) (note_bytes told))
+
+-- ---- notes
+
+-- what isn't a note tells nothing
+pub no_note : (known : Known) (entry : Entry) → ¬ IsNote entry → known_with known entry ≡ known
+no_note known (opening campaign release source meters) none = refl
+no_note known (mark campaign meter e) none = refl
+no_note known (cancelling campaign) none = refl
+no_note known (endings campaign numbers) none = refl
+no_note known (note campaign told) none = absurd (none tt)
+
 -- ---- what a power cut leaves
 
+-- the same without what is noted
+pub has_book : (head : ℕ) (bytes : List ℕ) (book : Contents) (known : Known) → HasNoted head bytes book known → HasBook head bytes book
+has_book head bytes book known has = record { records = has.records; stands = has.stands; is_book = has.is_book }
+
 module _ {D : Type 0} (honest : D → Bool) (contents : D → List ℕ) (may_leave : D → List ℕ → Type 0) where
-  pub left_has : (head : ℕ) (kept : Journal D) (synced book : Contents) → Keeps honest contents may_leave head kept synced book → (left : List ℕ) → may_leave (journal.device_of kept) left → HasBook head left synced
-  left_has head kept synced book keeps left now = record {
+  pub left_noted : (head : ℕ) (kept : Journal D) (synced book : Contents) (noted known : Known) → Keeps honest contents may_leave head kept synced book noted known → (left : List ℕ) → may_leave (journal.device_of kept) left → HasNoted head left synced noted
+  left_noted head kept synced book noted known keeps left now = record {
     records = keeps.done;
     stands = subst (λ (l : List ℕ). Stands l keeps.done) (sym (keeps.has.synced left now ∙ keeps.has.bytes)) (record { fit = keeps.has.done_fit; end = 0 ∷ []; split = refl; shut = tt });
     is_book = keeps.of_done;
+    are_notes = keeps.notes_done;
   }
 
+  pub left_has : (head : ℕ) (kept : Journal D) (synced book : Contents) (noted known : Known) → Keeps honest contents may_leave head kept synced book noted known → (left : List ℕ) → may_leave (journal.device_of kept) left → HasBook head left synced
+  left_has head kept synced book noted known keeps left now = has_book head left synced noted (left_noted head kept synced book noted known keeps left now)
+
   -- where there is no call
-  pub nothing_done : (moment : D → ℕ) (left_since : D → ℕ → List ℕ → Type 0) (head : ℕ) (kept : Journal D) (synced book : Contents) (Q : List ℕ → Type 0) → Keeps honest contents may_leave head kept synced book
+  pub nothing_done : (moment : D → ℕ) (left_since : D → ℕ → List ℕ → Type 0) (head : ℕ) (kept : Journal D) (synced book : Contents) (noted known : Known) (Q : List ℕ → Type 0) → Keeps honest contents may_leave head kept synced book noted known
       → ((device : D) (left : List ℕ) → left_since device (moment device) left → may_leave device left)
-      → LeavesOnly moment left_since (journal.device_of kept) (journal.device_of kept) (λ left. HasBook head left synced ⊎ Q left)
-  nothing_done moment left_since head kept synced book Q keeps only_now = record {
+      → LeavesOnly moment left_since (journal.device_of kept) (journal.device_of kept) (λ left. HasNoted head left synced noted ⊎ Q left)
+  nothing_done moment left_since head kept synced book noted known Q keeps only_now = record {
     later = omega arith;
-    each = λ left now. inl (left_has head kept synced book keeps left (only_now (journal.device_of kept) left now));
+    each = λ left now. inl (left_noted head kept synced book noted known keeps left (only_now (journal.device_of kept) left now));
     before = λ since left le now. inl now;
   }
 
@@ -211,3 +240,18 @@ some_none first e none some = absurd (cc (sym none ∙ some))
 pub all_with : (head : ℕ) (done waiting : List (List ℕ)) (bytes : List ℕ) (synced book next : Contents) → IsBookOf head done synced → AddsAll waiting synced book → Adds bytes book next → IsBookOf head (done ++ (waiting ++ bytes ∷ [])) next
 all_with head done waiting bytes synced book next of_done of_waiting adds =
     all_join done (waiting ++ bytes ∷ []) (empty_book head) synced next of_done (all_push waiting bytes synced book next of_waiting adds)
+
+-- and with two records
+pub all_both : (head : ℕ) (done waiting : List (List ℕ)) (first second : List ℕ) (synced book between next : Contents) (one two : Entry) → IsBookOf head done synced → AddsAll waiting synced book → Spells first one → Spells second two
+    → Makes one book between → Makes two between next → IsBookOf head (done ++ ((waiting ++ first ∷ []) ++ second ∷ [])) next
+all_both head done waiting first second synced book between next one two of_done of_waiting spells also makes later =
+    all_with head done (waiting ++ first ∷ []) second synced between next of_done (all_push waiting first synced book between of_waiting (record { entry = one; spells = spells; makes = makes })) (record { entry = two; spells = also; makes = later })
+
+pub notes_with : ledger_laws.NotesGoOn → (done waiting : List (List ℕ)) (bytes : List ℕ) (entry : Entry) (known : Known) → AreNotesOf (done ++ waiting) known → Spells bytes entry → AreNotesOf (done ++ (waiting ++ bytes ∷ [])) (known_with known entry)
+notes_with on done waiting bytes entry known are spells =
+    subst (λ (l : List (List ℕ)). AreNotesOf l (known_with known entry)) (append_assoc done waiting (bytes ∷ [])) (on (done ++ waiting) bytes entry known are spells)
+
+pub notes_both : ledger_laws.NotesGoOn → (done waiting : List (List ℕ)) (first second : List ℕ) (one two : Entry) (known : Known) → AreNotesOf (done ++ waiting) known → Spells first one → Spells second two
+    → AreNotesOf (done ++ ((waiting ++ first ∷ []) ++ second ∷ [])) (known_with (known_with known one) two)
+notes_both on done waiting first second one two known are spells also =
+    notes_with on done (waiting ++ first ∷ []) second two (known_with known one) (notes_with on done waiting first one known are spells) also

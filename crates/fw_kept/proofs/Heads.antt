@@ -11,6 +11,7 @@ use Rattle.fw_book.specs.Rows.{state_of, with_state}
 use Rattle.fw_book.specs.Contents.{Offered, Contents, offered_in}
 use Rattle.fw_book.specs.Changes.{marked, at_serial}
 use Rattle.fw_head.specs.declared.news.News.{News}
+use Rattle.fw_head.specs.declared.news.Told.{Told}
 use Rattle.fw_head.specs.declared.news.RowNews.{RowNews}
 use Rattle.fw_head.specs.declared.news.RowNews.TheVariants.{Nothing, Moved, Done, Failed}
 use Rattle.fw_head.specs.Row as row
@@ -124,19 +125,19 @@ module _ (old : Head) (from : ℕ) (was next : row.Row) (is : IsRowOf old.book f
   row_makes Nothing = refl
   row_makes Moved = refl
   row_makes (Done claim) = (live_admits old.book was.name.campaign from is.live, ap (λ (n : Name). marked old.book n.campaign.serial from state.Done) same)
-  row_makes Failed = (live_admits old.book was.name.campaign from is.live, ap (λ (n : Name). marked old.book n.campaign.serial from state.Failed) same)
+  row_makes (Failed why) = (live_admits old.book was.name.campaign from is.live, ap (λ (n : Name). marked old.book n.campaign.serial from state.Failed) same)
 
   row_number : (heard : RowNews) → (book_after heard).head ≡ old.book.head
   row_number Nothing = refl
   row_number Moved = refl
   row_number (Done claim) = refl
-  row_number Failed = refl
+  row_number (Failed why) = refl
 
   row_offers : (heard : RowNews) → OfferSame (book_after heard) old.book
   row_offers Nothing = λ campaign. refl
   row_offers Moved = λ campaign. refl
   row_offers (Done claim) = mark_offers old.book next.name.campaign.serial from state.Done
-  row_offers Failed = mark_offers old.book next.name.campaign.serial from state.Failed
+  row_offers (Failed why) = mark_offers old.book next.name.campaign.serial from state.Failed
 
   row_found : (heard : RowNews) → IsSome (offered_in (book_after heard) was.name.campaign)
   row_found heard =
@@ -147,7 +148,7 @@ module _ (old : Head) (from : ℕ) (was next : row.Row) (is : IsRowOf old.book f
   row_news Nothing = tt
   row_news Moved = tt
   row_news (Done claim) = row_found (Done claim)
-  row_news Failed = row_found Failed
+  row_news (Failed why) = row_found (Failed why)
 
 -- what a head end that hears these news makes of its book
 pub record Hears (old : Contents) (told : News) (new : Contents) : Type 0 where
@@ -177,13 +178,13 @@ head_hears keeps old new from datagram told is hears =
     (λ ignores. hears_of old new told _ old ignores.2 ignores.1 (record { makes = refl; number = refl; offers = λ campaign. refl; news = tt })) hears
 
 -- and whatever comes of it, what is offered stays
-pub heard_offers : {E : Type 0} → RowKeepsGoal → (r : Result News E) (old new : Head) (from : ℕ) (datagram : List ℕ) → IsHead old → IfOk r (λ told. HeadHears old from datagram told new) → OnErr r (new ≡ old) → OfferSame new.book old.book
-heard_offers keeps (Ok told) old new from datagram is hears same = (head_hears keeps old new from datagram told is hears).offers
-heard_offers keeps (Err e) old new from datagram is hears same = λ campaign. ap (λ (h : Head). shown_of (offered_in h.book campaign)) same
+pub told_offers : {E : Type 0} → RowKeepsGoal → (r : Result Told E) (old new : Head) (from : ℕ) (datagram : List ℕ) → IsHead old → IfOk r (λ told. HeadHears old from datagram told.news new) → OnErr r (new ≡ old) → OfferSame new.book old.book
+told_offers keeps (Ok told) old new from datagram is hears same = (head_hears keeps old new from datagram told.news is hears).offers
+told_offers keeps (Err e) old new from datagram is hears same = λ campaign. ap (λ (h : Head). shown_of (offered_in h.book campaign)) same
 
-pub heard_number : {E : Type 0} → RowKeepsGoal → (r : Result News E) (old new : Head) (from : ℕ) (datagram : List ℕ) → IsHead old → IfOk r (λ told. HeadHears old from datagram told new) → OnErr r (new ≡ old) → new.book.head ≡ old.book.head
-heard_number keeps (Ok told) old new from datagram is hears same = (head_hears keeps old new from datagram told is hears).number
-heard_number keeps (Err e) old new from datagram is hears same = ap (λ (h : Head). h.book.head) same
+pub told_number : {E : Type 0} → RowKeepsGoal → (r : Result Told E) (old new : Head) (from : ℕ) (datagram : List ℕ) → IsHead old → IfOk r (λ told. HeadHears old from datagram told.news new) → OnErr r (new ≡ old) → new.book.head ≡ old.book.head
+told_number keeps (Ok told) old new from datagram is hears same = (head_hears keeps old new from datagram told.news is hears).number
+told_number keeps (Err e) old new from datagram is hears same = ap (λ (h : Head). h.book.head) same
 
 -- books that offer the same as a third
 pub offers_on : (a b c : Contents) → OfferSame a b → OfferSame b c → OfferSame a c

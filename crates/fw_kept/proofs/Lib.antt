@@ -6,3 +6,4 @@ mod Backs
 mod Compacts
 mod Puts
 mod Commits
+mod Notings

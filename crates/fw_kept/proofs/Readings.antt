@@ -1,5 +1,5 @@
 -- What bytes are read as, whoever's they are.
-use Rattle.std.proofs.Common.{◌≡◌, ◌≢◌, ⊎_elim, ℕ, List, [], ◌∷◌, ◌++◌, Option, Some, None, Bool, true, false, cond, eqb, Result, Ok, Err, IfErr, IsErrOf, Vec, length, arith, refl, sym, ap, subst, ◌∙◌, append_assoc}
+use Rattle.std.proofs.Common.{◌≡◌, ◌≢◌, ⊎_elim, ℕ, List, [], ◌∷◌, ◌++◌, Option, Some, None, IsSome, Bool, true, false, cond, eqb, Result, Ok, Err, IfErr, IsErrOf, Vec, length, arith, refl, sym, ap, subst, ◌∙◌, append_assoc}
 use Rattle.std.specs.declared.alloc.Global.{Global}
 use Rattle.std.proofs.lemmas.Bool.{cases_eq}
 use Rattle.fw_names.specs.Name.{Campaign, IsOpened}
@@ -12,16 +12,21 @@ use Rattle.fw_journal.specs.Laws.{OneReading}
 use Rattle.fw_journal.specs.Refusals.{IsOpeningRefusal}
 use Rattle.fw_journal.specs.declared.error.JournalError.{JournalError}
 use Rattle.fw_journal.specs.declared.error.JournalError.TheVariants as refusal
-use Rattle.fw_ledger.specs.Entry.{Entry, opening, mark, cancelling, endings, Spells, NoRecord}
+use Rattle.fw_ledger.specs.Entry.{Entry, opening, mark, cancelling, endings, note, Spells, NoRecord}
+use Rattle.fw_ledger.specs.declared.record.Note.{Note}
+use Rattle.fw_ledger.specs.declared.record.Note.TheVariants.{Opened, Ended}
+use Rattle.fw_ledger.specs.Noted.{AreNotesOf}
+use Rattle.fw_book.specs.Notes.{Known}
 use Rattle.fw_ledger.specs.Replay.{Makes, IsBookOf, records_of}
 use Rattle.fw_ledger.specs.Laws.{OneRecord, FailedHaveNone}
-use Rattle.fw_kept.specs.Kept.{HasBadRecord, IsForeign, IsReadAs, campaign_of}
+use Rattle.fw_kept.specs.Kept.{HasNotes, HasBadRecord, IsForeign, IsReadAs, campaign_of}
+use Rattle.fw_book.specs.declared.row.RowState.{RowState}
 use Rattle.fw_kept.specs.Private.{AreReadAs, IsBadAt, IsReadingRefusal, IsRecordsRefusal}
 use Rattle.fw_kept.specs.Laws.{ForeignHaveNone, BadRecordsHaveNone}
 use Rattle.fw_kept.specs.Refusals.{open_error}
 use Rattle.fw_kept.specs.declared.error.OpenError.{OpenError}
 use Rattle.fw_kept.specs.declared.error.OpenError.TheVariants.{BadBook, BadRecord, ForeignHead, BookFault, OutOfMemory}
-use Rattle.fw_kept.proofs.Books.{same_lists, book_head, mark_none, cancel_none, some_none}
+use Rattle.fw_kept.proofs.Books.{same_lists, book_head, state_none, mark_none, cancel_none, some_none}
 
 -- ---- the head end of a first record
 
@@ -30,6 +35,7 @@ spelled_opened bytes (opening campaign release source meters) spells = spells.ca
 spelled_opened bytes (mark campaign meter ending) spells = spells.can
 spelled_opened bytes (cancelling campaign) spells = spells.can
 spelled_opened bytes (endings campaign numbers) spells = spells.can.0
+spelled_opened bytes (note campaign told) spells = spells.can
 
 same_either : (b : Bool) (o : Option Offered) → cond b o o ≡ o
 same_either true o = refl
@@ -41,6 +47,13 @@ empty_offers head campaign = same_either (eqb campaign.head head) None
 no_offer : (offer : Offered) → None ≡ Some offer → ⊥
 no_offer offer is = cc is
 
+none_there : (o : Option Offered) → o ≡ None → IsSome o → ⊥
+none_there None none some = cc some
+none_there (Some offer) none some = cc none
+
+no_state : (state : RowState) → None ≡ Some state → ⊥
+no_state state is = cc is
+
 makes_own : AdmittedOpens → (head : ℕ) (entry : Entry) (next : Contents) → Makes entry (empty_book head) next → (campaign_of entry).head ≡ head
 makes_own admitted head (opening campaign release source meters) next makes = ((admitted (empty_book head) campaign makes.image meters).0 makes.admitted).own
 makes_own admitted head (mark campaign meter ending) next makes =
@@ -48,6 +61,9 @@ makes_own admitted head (mark campaign meter ending) next makes =
 makes_own admitted head (cancelling campaign) next makes =
     absurd (some_none (cancel_refusal (empty_book head) campaign) NoSuchCampaign makes.0 (cancel_none (empty_book head) campaign (empty_offers head campaign)))
 makes_own admitted head (endings campaign numbers) next makes = absurd (no_offer makes.offer (sym (empty_offers head campaign) ∙ makes.offered))
+makes_own admitted head (note campaign (Opened at)) next makes = absurd (none_there (offered_in (empty_book head) campaign) (empty_offers head campaign) makes.0)
+makes_own admitted head (note campaign (Ended meter told)) next makes =
+    absurd (no_state makes.0.state (sym (state_none (empty_book head) campaign meter (empty_offers head campaign)) ∙ makes.0.is_state))
 
 -- the first record of a book is of its head end
 record Begins (head : ℕ) (first : List ℕ) : Type 0 where
@@ -138,6 +154,9 @@ read_as reading bytes vs (Some book) stands are = (
   record { records = records_of vs; stands = subst (λ (l : List (List ℕ)). Stands bytes l) (same_lists vs) stands; is_book = are.0 },
   λ none. are.1 (sym (same_lists vs) ∙ reading bytes (contents_of vs) [] stands none),
 )
+
+pub notes_read : (bytes : List ℕ) (vs : List (Vec ℕ Global)) (known : Known) → Stands bytes (contents_of vs) → AreNotesOf (records_of vs) known → HasNotes bytes known
+notes_read bytes vs known stands are = record { records = records_of vs; stands = subst (λ (l : List (List ℕ)). Stands bytes l) (same_lists vs) stands; are_notes = are }
 
 first_stands : (bytes : List ℕ) (records : List (List ℕ)) → Stands bytes records → records ≢ [] → HasRecord bytes
 first_stands bytes [] stands some = absurd (some refl)

@@ -3,7 +3,9 @@ use Rattle.std.specs.Prelude.{◌≡◌, ◌⊎◌, ℕ, List, Option, Some, Non
 use Rattle.std.specs.Option.{option_map}
 use Rattle.fw_names.specs.Name.{Campaign}
 use Rattle.fw_book.specs.Contents.{Contents, Offered, offered_in}
+use Rattle.fw_book.specs.Notes.{Known, with_ending}
 use Rattle.fw_book.specs.declared.error.BookError.{BookError}
+use Rattle.fw_book.specs.declared.notes.Reason.{Reason}
 use Rattle.fw_head.specs.Head.{Head, HeadHears}
 use Rattle.fw_head.specs.declared.news.News.{News}
 use Rattle.fw_head.specs.declared.news.News.TheVariants.{Nothing, Moved, Done, Failed}
@@ -11,7 +13,7 @@ use Rattle.fw_journal.specs.Device.{LeavesOnly, Keeps as DeviceKeeps}
 use Rattle.fw_journal.specs.Journal as journal
 use Rattle.fw_journal.specs.declared.device.JournalDevice
 use Rattle.fw_journal.specs.declared.journal.Journal.{Journal}
-use Rattle.fw_kept.specs.Kept.{HasBook, Keeps}
+use Rattle.fw_kept.specs.Kept.{HasBook, HasNoted, Keeps}
 use Rattle.fw_kept.specs.declared.head.KeptHead.{KeptHead}
 
 -- ---- books that offer the same
@@ -38,6 +40,10 @@ head_of kept = kept.head
 abbrev pub book_of : {D : Type 0} → KeptHead D → Contents
 book_of kept = kept.head.book
 
+-- what is known of it
+abbrev pub known_of : {D : Type 0} → KeptHead D → Known
+known_of kept = kept.notes
+
 abbrev pub journal_of : {D : Type 0} → KeptHead D → Journal D
 journal_of kept = kept.journal
 
@@ -48,12 +54,16 @@ device_of kept = journal.device_of kept.journal
 abbrev pub is_broken : {D : Type 0} → KeptHead D → Bool
 is_broken kept = kept.broken || journal.is_broken kept.journal
 
--- Every power cut leaves the book `synced`, and what waits for the next commit makes the book in memory of it. Both offer the same: only
--- marks wait.
-pub record Holds {D : Type 0} (honest : D → Bool) (contents : D → List ℕ) (may_leave : D → List ℕ → Type 0) (kept : KeptHead D) (synced : Contents) : Type 0 where
+-- Every power cut leaves the book `synced` and what was `noted` of it, and what waits for the next commit makes the book in memory of it and
+-- what is known there. Both books offer the same: only marks wait, each with its note.
+pub record HoldsNoted {D : Type 0} (honest : D → Bool) (contents : D → List ℕ) (may_leave : D → List ℕ → Type 0) (kept : KeptHead D) (synced : Contents) (noted : Known) : Type 0 where
   pub works : kept.broken ≡ false
-  pub keeps : Keeps honest contents may_leave kept.head.book.head kept.journal synced kept.head.book
+  pub keeps : Keeps honest contents may_leave kept.head.book.head kept.journal synced kept.head.book noted kept.notes
   pub offers : OfferSame kept.head.book synced
+
+-- the same, whatever was noted
+abbrev pub Holds : {D : Type 0} → (D → Bool) → (D → List ℕ) → (D → List ℕ → Type 0) → KeptHead D → Contents → Type 0
+Holds honest contents may_leave kept synced = (noted : Known) × HoldsNoted honest contents may_leave kept synced noted
 
 -- ---- what is heard
 
@@ -64,7 +74,15 @@ IsEnd Moved = ⊥
 IsEnd (Done campaign meter) = Unit {0}
 IsEnd (Failed campaign meter) = Unit {0}
 
--- A row ended, and memory for the record of its mark was refused. The book in memory has the mark, and nothing is committed any more.
+-- what is known once these news are heard: when a row ended, and why, if it failed
+abbrev pub known_heard : Known → News → Option Reason → ℕ → Known
+known_heard known Nothing why now = known
+known_heard known Moved why now = known
+known_heard known (Done campaign meter) why now = with_ending known campaign.serial meter (record { at = now; reason = None })
+known_heard known (Failed campaign meter) why now = with_ending known campaign.serial meter (record { at = now; reason = why })
+
+-- A row ended, and memory for the record of its mark or of its note was refused. The book in memory has the mark, and nothing is committed
+-- any more.
 pub record LosesMark {D : Type 0} (old : KeptHead D) (meter : ℕ) (datagram : List ℕ) (new : KeptHead D) : Type 0 where
   pub told : News
   pub hears : HeadHears old.head meter datagram told new.head
@@ -85,9 +103,22 @@ IsBacked may_leave kept = (left : List ℕ) → may_leave (device_of kept) left 
 
 -- ---- what a call that commits leaves
 
--- A call that commits what waits, and makes `next` of the book. It is refused for `refusal` of the book first, if that is some;
--- `fault` says that the device failed, in this call or in an earlier one.
-pub record Commits {D T E : Type 0} (J : JournalDevice.Ghosts D) (fault : E) (refusal : Option BookError) (old : KeptHead D) (result : Result T E) (new : KeptHead D) (next : Contents) : Type 0 where
+-- What a call that commits leaves of a book and of what is noted of it: from `Ok` on `next`, of which `known` is known, after each cut, and
+-- at any moment that or what was left before it.
+pub record CommitsNoted {D T E : Type 0} (J : JournalDevice.Ghosts D) (old : KeptHead D) (result : Result T E) (new : KeptHead D) (next : Contents) (known : Known) : Type 0 where
+  pub acknowledged : (synced : Contents) (noted : Known) → HoldsNoted J.honest J.contents J.may_leave old synced noted → OnOk result (HoldsNoted J.honest J.contents J.may_leave new next known)
+  pub each_cut : (synced : Contents) (noted : Known) → HoldsNoted J.honest J.contents J.may_leave old synced noted
+      → OnOk result ((left : List ℕ) → J.may_leave (device_of new) left → HasNoted (book_of old).head left next known)
+  pub unchanged : (synced : Contents) (noted : Known) → HoldsNoted J.honest J.contents J.may_leave old synced noted
+      → OnErr result (HoldsNoted J.honest J.contents J.may_leave new synced noted ⊎ IsTrue (is_broken new))
+  pub any_moment : (synced : Contents) (noted : Known) → HoldsNoted J.honest J.contents J.may_leave old synced noted
+      → LeavesOnly J.moment J.left_since (device_of old) (device_of new) (λ left. HasNoted (book_of old).head left synced noted ⊎ HasNoted (book_of old).head left next known)
+  pub read_back : (synced : Contents) (noted : Known) → HoldsNoted J.honest J.contents J.may_leave old synced noted
+      → HasNoted (book_of old).head (J.contents (device_of new)) synced noted ⊎ HasNoted (book_of old).head (J.contents (device_of new)) next known
+
+-- A call that commits what waits, and makes `next` of the book, of which `known` is known then. It is refused for `refusal` of the book
+-- first, if that is some; `fault` says that the device failed, in this call or in an earlier one.
+pub record Commits {D T E : Type 0} (J : JournalDevice.Ghosts D) (fault : E) (refusal : Option BookError) (old : KeptHead D) (result : Result T E) (new : KeptHead D) (next : Contents) (known : Known) : Type 0 where
   -- from `Ok` on every power cut leaves that book
   pub acknowledged : (synced : Contents) → Holds J.honest J.contents J.may_leave old synced → OnOk result (Holds J.honest J.contents J.may_leave new next)
   pub each_cut : (synced : Contents) → Holds J.honest J.contents J.may_leave old synced → OnOk result ((left : List ℕ) → J.may_leave (device_of new) left → HasBook (book_of old).head left next)
@@ -99,6 +130,8 @@ pub record Commits {D T E : Type 0} (J : JournalDevice.Ghosts D) (fault : E) (re
   -- and so does the call where it returns, as it is read back without a cut: the process may be killed then
   pub read_back : (synced : Contents) → Holds J.honest J.contents J.may_leave old synced
       → HasBook (book_of old).head (J.contents (device_of new)) synced ⊎ HasBook (book_of old).head (J.contents (device_of new)) next
+  -- so it is with what is noted
+  pub noted : CommitsNoted J old result new next known
   -- also if nothing is committed from now on: every cut leaves a book that offers what the one in memory does
   pub backed : (synced : Contents) → Holds J.honest J.contents J.may_leave old synced → IsBacked J.may_leave new
   pub stays_backed : IsTrue (is_broken old) → IsBacked J.may_leave old → IsBacked J.may_leave new

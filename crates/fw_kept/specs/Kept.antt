@@ -1,14 +1,16 @@
 -- Public vocabulary: a book that is kept in a journal, and what a power cut leaves of it.
-use Rattle.std.specs.Prelude.{◌≡◌, ◌≢◌, ℕ, ◌≤◌, ◌^◌, ◌+◌, ◌⊎◌, List, [], ◌∷◌, length, Option, Some, None, Bool}
+use Rattle.std.specs.Prelude.{◌≡◌, ◌≢◌, ℕ, ◌≤◌, ◌^◌, ◌+◌, ◌⊎◌, List, [], ◌∷◌, ◌++◌, length, Option, Some, None, Bool}
 use Rattle.fw_names.specs.Name.{Campaign}
 use Rattle.fw_book.specs.Contents.{Contents}
+use Rattle.fw_book.specs.Notes.{Known}
 use Rattle.fw_journal.specs.Book.{Stands}
 use Rattle.fw_journal.specs.Device.{LeavesOnly}
 use Rattle.fw_journal.specs.Journal as journal
 use Rattle.fw_journal.specs.declared.device.JournalDevice
 use Rattle.fw_journal.specs.declared.journal.Journal.{Journal}
-use Rattle.fw_ledger.specs.Entry.{Entry, opening, mark, cancelling, endings, Spells}
+use Rattle.fw_ledger.specs.Entry.{Entry, opening, mark, cancelling, endings, note, Spells}
 use Rattle.fw_ledger.specs.Replay.{AddsAll, IsBookOf, FailsAt}
+use Rattle.fw_ledger.specs.Noted.{AreNotesOf}
 
 -- ---- what bytes hold
 
@@ -17,6 +19,19 @@ pub record HasBook (head : ℕ) (bytes : List ℕ) (book : Contents) : Type 0 wh
   pub records : List (List ℕ)
   pub stands : Stands bytes records
   pub is_book : IsBookOf head records book
+
+-- the bytes are a journal of records that have this book of the head end, and this is known from their notes
+pub record HasNoted (head : ℕ) (bytes : List ℕ) (book : Contents) (known : Known) : Type 0 where
+  pub records : List (List ℕ)
+  pub stands : Stands bytes records
+  pub is_book : IsBookOf head records book
+  pub are_notes : AreNotesOf records known
+
+-- the bytes are a journal of records, and this is known from their notes
+pub record HasNotes (bytes : List ℕ) (known : Known) : Type 0 where
+  pub records : List (List ℕ)
+  pub stands : Stands bytes records
+  pub are_notes : AreNotesOf records known
 
 -- the bytes have no book of any head end
 abbrev pub HasNoBook : List ℕ → Type 0
@@ -33,6 +48,7 @@ campaign_of (opening campaign release image meters) = campaign
 campaign_of (mark campaign meter ending) = campaign
 campaign_of (cancelling campaign) = campaign
 campaign_of (endings campaign numbers) = campaign
+campaign_of (note campaign told) = campaign
 
 -- the first record is of a campaign of another head end
 pub record IsForeign (head : ℕ) (records : List (List ℕ)) : Type 0 where
@@ -64,13 +80,16 @@ pub record HasBadRecord (head : ℕ) (bytes : List ℕ) (index : ℕ) : Type 0 w
 abbrev pub IsFull : {D : Type 0} → Journal D → Type 0
 IsFull kept = (2 ^ 60 ≤ journal.end_of kept) ⊎ (2 ^ 60 ≤ length (journal.waiting_of kept) + 2 ^ 33)
 
--- Every power cut leaves records of the book `synced` in this journal, and with those that wait they are records of the book `book`.
-pub record Keeps {D : Type 0} (honest : D → Bool) (contents : D → List ℕ) (may_leave : D → List ℕ → Type 0) (head : ℕ) (kept : Journal D) (synced book : Contents) : Type 0 where
+-- Every power cut leaves records of the book `synced` in this journal, with the notes `noted`, and with those that wait they are records of
+-- the book `book`, with the notes `known`.
+pub record Keeps {D : Type 0} (honest : D → Bool) (contents : D → List ℕ) (may_leave : D → List ℕ → Type 0) (head : ℕ) (kept : Journal D) (synced book : Contents) (noted known : Known) : Type 0 where
   pub done : List (List ℕ)
   pub waiting : List (List ℕ)
   pub has : journal.Has honest contents may_leave kept done waiting
   pub of_done : IsBookOf head done synced
   pub of_waiting : AddsAll waiting synced book
+  pub notes_done : AreNotesOf done noted
+  pub notes_all : AreNotesOf (done ++ waiting) known
 
 -- what a cut at any moment of an opening leaves: what one before it might have left, or a journal of the same records
 abbrev pub LeavesRecords : {D : Type 0} → JournalDevice.Ghosts D → D → D → Type 0

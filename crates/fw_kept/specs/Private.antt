@@ -1,6 +1,7 @@
 -- For private clauses alone: what records are refused for, which can be put into a journal, and what is put in where a row ends.
 use Rattle.std.specs.Prelude.{◌≡◌, ◌≢◌, ◌⊎◌, ℕ, ◌<◌, ◌^◌, List, [], length, Option, Some, None, IsSome, Result, OnOk, OnErr, IsErrOf, IsTrue}
 use Rattle.fw_book.specs.Contents.{Contents, offered_in}
+use Rattle.fw_book.specs.Notes.{Known}
 use Rattle.fw_head.specs.declared.news.News.{News}
 use Rattle.fw_head.specs.declared.news.News.TheVariants as news
 use Rattle.fw_journal.specs.Device.{LeavesOnly, Keeps as DeviceKeeps}
@@ -12,7 +13,7 @@ use Rattle.fw_ledger.specs.Replay.{Makes, IsBookOf, FailsAt}
 use Rattle.fw_ledger.specs.declared.record.Ending.TheVariants as ending
 use Rattle.fw_kept.specs.declared.error.OpenError.{OpenError}
 use Rattle.fw_kept.specs.declared.error.OpenError.TheVariants.{BadBook, BadRecord, ForeignHead, BookFault, OutOfMemory}
-use Rattle.fw_kept.specs.Kept.{HasBook, IsForeign, Keeps}
+use Rattle.fw_kept.specs.Kept.{HasNoted, IsForeign, Keeps}
 
 -- the record with this index has no place in the book of those before it, and the first isn't another head end's
 pub record IsBadAt (head : ℕ) (records : List (List ℕ)) (index : ℕ) : Type 0 where
@@ -60,14 +61,14 @@ NewsMake news.Moved book next = next ≡ book
 NewsMake (news.Done campaign meter) book next = Makes (mark campaign meter ending.Done) book next
 NewsMake (news.Failed campaign meter) book next = Makes (mark campaign meter ending.Failed) book next
 
--- A call that puts all that waits on the device of a journal, and makes `next` of the book that its records are of: what `Commits` says of
--- a head end, of its journal alone.
-pub record Puts {D T E : Type 0} (J : JournalDevice.Ghosts D) (fault : E) (old : Journal D) (result : Result T E) (new : Journal D) (book next : Contents) : Type 0 where
-  pub acknowledged : (head : ℕ) (synced : Contents) → Keeps J.honest J.contents J.may_leave head old synced book → OnOk result (Keeps J.honest J.contents J.may_leave head new next next)
-  pub unchanged : (head : ℕ) (synced : Contents) → Keeps J.honest J.contents J.may_leave head old synced book
-      → OnErr result (Keeps J.honest J.contents J.may_leave head new synced book ⊎ IsTrue (journal.is_broken new))
-  pub any_moment : (head : ℕ) (synced : Contents) → Keeps J.honest J.contents J.may_leave head old synced book
-      → LeavesOnly J.moment J.left_since (journal.device_of old) (journal.device_of new) (λ left. HasBook head left synced ⊎ HasBook head left next)
+-- A call that puts all that waits on the device of a journal, and makes `next` of the book that its records are of, and `later` of what
+-- their notes say: what `Commits` says of a head end, of its journal alone.
+pub record Puts {D T E : Type 0} (J : JournalDevice.Ghosts D) (fault : E) (old : Journal D) (result : Result T E) (new : Journal D) (book next : Contents) (known later : Known) : Type 0 where
+  pub acknowledged : (head : ℕ) (synced : Contents) (noted : Known) → Keeps J.honest J.contents J.may_leave head old synced book noted known → OnOk result (Keeps J.honest J.contents J.may_leave head new next next later later)
+  pub unchanged : (head : ℕ) (synced : Contents) (noted : Known) → Keeps J.honest J.contents J.may_leave head old synced book noted known
+      → OnErr result (Keeps J.honest J.contents J.may_leave head new synced book noted known ⊎ IsTrue (journal.is_broken new))
+  pub any_moment : (head : ℕ) (synced : Contents) (noted : Known) → Keeps J.honest J.contents J.may_leave head old synced book noted known
+      → LeavesOnly J.moment J.left_since (journal.device_of old) (journal.device_of new) (λ left. HasNoted head left synced noted ⊎ HasNoted head left next later)
   pub breaks : IsErrOf result fault → IsTrue (journal.is_broken new)
   pub never : IsTrue (J.sound (journal.device_of old)) → IsErrOf result fault → IsTrue (journal.is_broken old)
   pub kept : DeviceKeeps J.honest J.sound (journal.device_of old) (journal.device_of new)

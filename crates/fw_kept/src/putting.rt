@@ -3,10 +3,12 @@
 ghost use Rattle.std.specs.Prelude.{◌≡◌, ◌<◌, ◌≤◌, ◌+◌, ◌^◌, ℕ, length, None, IfOk, IfErr, OnOk, OnErr, IsErrOf, IsTrue};
 ghost use Rattle.fw_names.specs.Name.{IsOpened};
 ghost use Rattle.fw_book.specs.Contents.{Contents, offered_in};
+ghost use Rattle.fw_book.specs.Notes.{Known};
 ghost use Rattle.fw_book.specs.Changes.{opened, opening_refusal};
 ghost use Rattle.fw_journal.specs.Journal.{device_of};
-ghost use Rattle.fw_ledger.specs.Entry.{earlier, source_bytes, IsSource, Spells};
+ghost use Rattle.fw_ledger.specs.Entry.{earlier, source_bytes, entry_bytes, IsSource, IsNote, Spells};
 ghost use Rattle.fw_ledger.specs.Replay.{IsImage, Makes};
+ghost use Rattle.fw_ledger.specs.Noted.{known_with};
 ghost use Rattle.fw_ledger.specs.View.{source_of, entry_of};
 ghost use Rattle.fw_kept.specs.Kept.{IsFull, Keeps};
 ghost use Rattle.fw_kept.specs.Refusals.{IsCommitRefusal};
@@ -39,14 +41,17 @@ pub(crate) fn add<D: JournalDevice>(
     told: &Record<'_>,
 ) -> Result<(), KeptError>
     requires { CanBeKept (entry_of told.now) }
-    ensures waits { (head : ℕ) (synced book next : Contents) → Keeps D.honest D.contents D.may_leave head journal.old synced book
+    ensures waits { (head : ℕ) (synced book next : Contents) (noted known : Known)
+        → Keeps D.honest D.contents D.may_leave head journal.old synced book noted known
         → Makes (entry_of told.now) book next
-        → OnOk result (Keeps D.honest D.contents D.may_leave head journal.new synced next) }
-    ensures unchanged { (head : ℕ) (synced book : Contents) → Keeps D.honest D.contents D.may_leave head journal.old synced book
-        → OnErr result (Keeps D.honest D.contents D.may_leave head journal.new synced book) }
+        → OnOk result (Keeps D.honest D.contents D.may_leave head journal.new synced next noted (known_with known (entry_of told.now))) }
+    ensures unchanged { (head : ℕ) (synced book : Contents) (noted known : Known)
+        → Keeps D.honest D.contents D.may_leave head journal.old synced book noted known
+        → OnErr result (Keeps D.honest D.contents D.may_leave head journal.new synced book noted known) }
     ensures device { device_of journal.new ≡ device_of journal.old }
     ensures memory { IfErr result (λ e. e ≡ KeptError.OutOfMemory) }
 {
+    fw_ledger::laws::notes_go_on();
     let bytes = bytes_of(alloc, told)?;
     match journal.append(alloc, &bytes) {
         Ok(()) => Ok(()),
@@ -61,19 +66,45 @@ pub(crate) fn put<D: JournalDevice>(
     told: &Record<'_>,
 ) -> Result<(), KeptError>
     requires { CanBeKept (entry_of told.now) }
-    ensures puts { (book next : Contents) → Makes (entry_of told.now) book next
-        → Puts D.JournalDevice KeptError.BookFault journal.old result journal.new book next }
+    ensures puts { (book next : Contents) (known : Known) → Makes (entry_of told.now) book next
+        → Puts D.JournalDevice KeptError.BookFault journal.old result journal.new book next known (known_with known (entry_of told.now)) }
     ensures full { IsErrOf result KeptError.Full → IsFull journal.old }
     ensures refusals { IfErr result IsCommitRefusal }
 {
+    fw_ledger::laws::notes_go_on();
     let bytes = bytes_of(alloc, told)?;
     journal.commit_with(alloc, &bytes)?;
     Ok(())
 }
 
+/// Commits a record and one that is a note with those that wait. Neither waits if that is refused.
+pub(crate) fn put_noted<D: JournalDevice>(
+    alloc: Global,
+    journal: &mut Journal<D>,
+    told: &Record<'_>,
+    note: &Record<'_>,
+) -> Result<(), KeptError>
+    requires can { CanBeKept (entry_of told.now) }
+    requires can_note { CanBeKept (entry_of note.now) }
+    requires small { length (entry_bytes (entry_of note.now)) ≤ 64 }
+    ensures puts { (book between next : Contents) (known : Known) → Makes (entry_of told.now) book between
+        → Makes (entry_of note.now) between next
+        → Puts D.JournalDevice KeptError.BookFault journal.old result journal.new book next known
+        (known_with (known_with known (entry_of told.now)) (entry_of note.now)) }
+    ensures full { IsErrOf result KeptError.Full → IsFull journal.old }
+    ensures refusals { IfErr result IsCommitRefusal }
+{
+    fw_ledger::laws::notes_go_on();
+    let first = bytes_of(alloc, told)?;
+    let second = bytes_of(alloc, note)?;
+    journal.commit_both(alloc, &first, &second)?;
+    Ok(())
+}
+
 /// Commits the records that wait.
 pub(crate) fn put_waiting<D: JournalDevice>(journal: &mut Journal<D>) -> Result<(), KeptError>
-    ensures puts { (book : Contents) → Puts D.JournalDevice KeptError.BookFault journal.old result journal.new book book }
+    ensures puts { (book : Contents) (known : Known)
+        → Puts D.JournalDevice KeptError.BookFault journal.old result journal.new book book known known }
     ensures full { IsErrOf result KeptError.Full → IsFull journal.old }
     ensures refusals { IfErr result IsCommitRefusal }
 {
@@ -105,6 +136,7 @@ pub(crate) fn opening_of<'a>(
     requires admitted { opening_refusal book.now campaign image.now meters.now ≡ None }
     ensures can { IfOk result (λ told. CanBeKept (entry_of told)) }
     ensures makes { IfOk result (λ told. Makes (entry_of told) book.now (opened book.now campaign.serial release image.now meters.now)) }
+    ensures no_note { IfOk result (λ told. ¬ IsNote (entry_of told)) }
     ensures memory { IfErr result (λ e. e ≡ KeptError.OutOfMemory) }
 {
     fw_book::laws::admitted_opens();

@@ -7,11 +7,11 @@ use Rattle.fw_book.specs.Contents.{Offered, Contents, image_in}
 use Rattle.fw_book.specs.declared.error.BookError.{BookError}
 use Rattle.fw_book.specs.declared.error.BookError.TheVariants.{OutOfMemory}
 use Rattle.fw_book.specs.Changes.{empty_book, opened, marked, opening_refusal, IsRefusal}
-use Rattle.fw_ledger.specs.Entry.{Source, whole, earlier, Entry, opening, mark, cancelling, endings, ending_number}
+use Rattle.fw_ledger.specs.Entry.{Source, whole, earlier, Entry, opening, mark, cancelling, endings, note, ending_number}
 use Rattle.fw_ledger.specs.declared.record.Ending.{Ending}
 use Rattle.fw_ledger.specs.declared.record.Ending.TheVariants as ending
 use Rattle.fw_ledger.specs.Replay.{state_of, IsImage, MakesOpened, MakesNumbered, MakesEach, MakesEnded, Makes, Adds, AddsNothing, AddsAll, IsBookOf, FailsAt, records_of}
-use Rattle.fw_ledger.specs.Entry.{Spells, NoRecord, IsOpening, BeginsOpening, MayTakeMemory, meters_bytes}
+use Rattle.fw_ledger.specs.Entry.{Spells, NoRecord, IsOpening, IsNote, BeginsOpening, SpellsNote, MayTakeMemory, meters_bytes}
 use Rattle.fw_ledger.specs.declared.error.ReplayError.{ReplayError}
 use Rattle.fw_ledger.specs.declared.error.ReplayError.TheVariants as replay
 use Rattle.fw_ledger.proofs.Spellings.{record_unique, number_unique}
@@ -56,6 +56,7 @@ makes_unique (opening campaign release source meters) book a b ha hb =
 makes_unique (mark campaign meter e) book a b ha hb = ha.1 ∙ sym hb.1
 makes_unique (cancelling campaign) book a b ha hb = ha.1 ∙ sym hb.1
 makes_unique (endings campaign numbers) book a b ha hb = ended_unique book campaign numbers a b ha hb
+makes_unique (note campaign told) book a b ha hb = ha.1 ∙ sym hb.1
 
 pub adds_unique : (bytes : List ℕ) (book a b : Contents) → Adds bytes book a → Adds bytes book b → a ≡ b
 adds_unique bytes book a b ha hb =
@@ -136,6 +137,12 @@ spelled_begins bytes (opening campaign release source meters) spells is = record
 spelled_begins bytes (mark campaign meter e) spells is = absurd is
 spelled_begins bytes (cancelling campaign) spells is = absurd is
 spelled_begins bytes (endings campaign numbers) spells is = absurd is
+spelled_begins bytes (note campaign told) spells is = absurd is
+
+-- and so does a note
+pub spelled_takes : (bytes : List ℕ) (entry : Entry) → Spells bytes entry → IsOpening entry ⊎ IsNote entry → BeginsOpening bytes ⊎ SpellsNote bytes
+spelled_takes bytes entry spells (inl is) = inl (spelled_begins bytes entry spells is)
+spelled_takes bytes entry spells (inr is) = inr (entry, spells, is)
 
 told_is : {T : Type 0} (a b : ReplayError) → IsErrOf {T = T} (Err a) b → a ≡ b
 told_is a b is = cc is

@@ -2,7 +2,8 @@
 use Rattle.std.proofs.Common.{◌≡◌, ℕ, ◌*◌, ◌%◌, ◌<◌, ◌^◌, List, [], ◌∷◌, ◌++◌, length, refl, sym, ap, ◌∙◌, arith, length-append}
 use Rattle.std.specs.Int.{w32, to_be_bytes}
 use Rattle.fw_names.specs.Name.{Campaign, IsOpened, campaign_bytes}
-use Rattle.fw_ledger.specs.Entry.{Source, Entry, opening, mark, cancelling, endings, meters_bytes, opening_front, mark_bytes, IsSource, Spells, NoOpening}
+use Rattle.fw_ledger.specs.Entry.{Source, Entry, opening, mark, cancelling, endings, note, meters_bytes, opening_front, mark_bytes, IsSource, Spells, NoOpening}
+use Rattle.fw_ledger.specs.Note.{note_bytes}
 use Rattle.fw_ledger.proofs.Spellings.{front_unique, tail_of}
 
 length-meters_bytes : (meters : List ℕ) → length (meters_bytes meters) ≡ 4 * length meters
@@ -22,3 +23,4 @@ opening_none bytes none (opening c r x ms) spells = none c r x ms spells.can.0 s
 opening_none bytes none (mark c m e) spells = absurd (omega (arith, (tail_of 1 2 bytes (mark_bytes c m e) spells.spelled).0))
 opening_none bytes none (cancelling c) spells = absurd (omega (arith, (tail_of 1 3 bytes (campaign_bytes c) spells.spelled).0))
 opening_none bytes none (endings c ns) spells = absurd (omega (arith, (tail_of 1 4 bytes (campaign_bytes c ++ ns) spells.spelled).0))
+opening_none bytes none (note c n) spells = absurd (omega (arith, (tail_of 1 5 bytes (campaign_bytes c ++ note_bytes n) spells.spelled).0))

@@ -24,18 +24,20 @@ use Rattle.fw_book.proofs.Images.{found_last}
 use Rattle.fw_book.proofs.Parts.{next_admitted}
 use Rattle.fw_ledger.specs.declared.record.Ending.{Ending}
 use Rattle.fw_ledger.specs.declared.record.Ending.TheVariants as ending
-use Rattle.fw_ledger.specs.Entry.{Source, whole, earlier, Entry, opening, mark, cancelling, endings, AreEndings, Spells, entry_bytes, source_bytes, meters_bytes, opening_front}
+use Rattle.fw_ledger.specs.Entry.{Source, whole, earlier, Entry, opening, mark, cancelling, endings, note, AreEndings, Spells, SpellAll, entry_bytes, source_bytes, meters_bytes, opening_front}
+use Rattle.fw_ledger.specs.Note.{note_bytes}
+use Rattle.fw_ledger.proofs.NoteSpellings.{note_short}
 use Rattle.fw_ledger.specs.Replay as replay
 use Rattle.fw_ledger.specs.Replay.{IsImage, MakesMarked, MakesNumbered, MakesEach, Makes, AddsAll, IsBookOf, records_of}
-use Rattle.fw_ledger.specs.Remade.{is_cancelled, state_number, numbers_of, rows_entries, has_cancelled, ending_entries, campaign_entries, SpellAll, Puts, HaveSerials}
+use Rattle.fw_ledger.specs.Remade.{is_cancelled, state_number, numbers_of, rows_entries, has_cancelled, ending_entries, campaign_entries, Puts, HaveSerials}
 
 -- ---- what holds of each
 
-all_map : {X : Type 0} (P Q : X → Type 0) → ((x : X) → P x → Q x) → (xs : List X) → AllByRecursion P xs → AllByRecursion Q xs
+pub all_map : {X : Type 0} (P Q : X → Type 0) → ((x : X) → P x → Q x) → (xs : List X) → AllByRecursion P xs → AllByRecursion Q xs
 all_map P Q step [] h = tt
 all_map P Q step (x ∷ xs) h = (step x h.0, all_map P Q step xs h.1)
 
-all_both : {X : Type 0} (P Q R : X → Type 0) → ((x : X) → P x → Q x → R x) → (xs : List X) → AllByRecursion P xs → AllByRecursion Q xs → AllByRecursion R xs
+pub all_both : {X : Type 0} (P Q R : X → Type 0) → ((x : X) → P x → Q x → R x) → (xs : List X) → AllByRecursion P xs → AllByRecursion Q xs → AllByRecursion R xs
 all_both P Q R step [] p q = tt
 all_both P Q R step (x ∷ xs) p q = (step x p.0 q.0, all_both P Q R step xs p.1 q.1)
 
@@ -179,6 +181,7 @@ makes_order admitted (mark campaign meter e) book next makes order = marked_orde
 makes_order admitted (cancelling campaign) book next makes order =
     subst (λ (c : Contents). InOrder c.campaigns) (sym makes.1) (order_changed cancelled_rows Keeps-cancelled (λ rows entire. inr (no_live rows)) campaign.serial book.campaigns order)
 makes_order admitted (endings campaign numbers) book next makes order = each_order (meters_of makes.offer.rows) numbers book campaign next makes.each order
+makes_order admitted (note campaign told) book next makes order = subst (λ (c : Contents). InOrder c.campaigns) (sym makes.1) order
 
 all_order : AdmittedOpens → (records : List (List ℕ)) (book next : Contents) → AddsAll records book next → InOrder book.campaigns → InOrder next.campaigns
 all_order admitted [] book next all order = subst (λ (c : Contents). InOrder c.campaigns) (sym all) order
@@ -200,7 +203,7 @@ order_at (a ∷ front) entry rest order =
 
 -- ---- the last campaign of a book
 
-abbrev ending_in : ℕ → List (ℕ × Offered) → ℕ → Offered → List Row → Contents
+abbrev pub ending_in : ℕ → List (ℕ × Offered) → ℕ → Offered → List Row → Contents
 ending_in head front serial offer rows = record { head = head; campaigns = front ++ (serial, record { release = offer.release; image = offer.image; rows = rows }) ∷ [] }
 
 changed_last : (serial : ℕ) (change : List Row → List Row) (front : List (ℕ × Offered)) (offer : Offered) (rows : List Row) → is_some (lookup (nat_eq serial) front) ≡ false
@@ -218,7 +221,7 @@ changed_last serial change (x ∷ front) offer rows new =
         (λ other. (other, ap (λ b. is_some (cond b (Some entry.1) (lookup (nat_eq serial) entries))) (sym other) ∙ h))
         (cases_Bool (nat_eq serial entry.0))
 
-offered_last : (head : ℕ) (front : List (ℕ × Offered)) (serial : ℕ) (offer : Offered) (rows : List Row) → is_some (lookup (nat_eq serial) front) ≡ false
+pub offered_last : (head : ℕ) (front : List (ℕ × Offered)) (serial : ℕ) (offer : Offered) (rows : List Row) → is_some (lookup (nat_eq serial) front) ≡ false
     → offered_in (ending_in head front serial offer rows) (record { head = head; serial = serial }) ≡ Some (record { release = offer.release; image = offer.image; rows = rows })
 offered_last head front serial offer rows new =
     cond-true (eqb head head) _ _ ((Decides-eqb head head).1 refl) ∙ found_last serial front (record { release = offer.release; image = offer.image; rows = rows }) new
@@ -235,7 +238,7 @@ settle Cancelled = Live
 abbrev settled : Row → Row
 settled row = record { meter = row.meter; state = settle row.state }
 
-abbrev has_meter : ℕ → List Row → Bool
+abbrev pub has_meter : ℕ → List Row → Bool
 has_meter meter rows = list_any (λ other. other == meter) (meters_of rows)
 
 map-join : (change : Row → Row) (xs ys : List Row) → map change (xs ++ ys) ≡ map change xs ++ map change ys
@@ -281,7 +284,7 @@ has-join meter (x ∷ xs) ys first second =
     let parts = or_parts (eqb x.meter meter) (has_meter meter xs) first in
     or_from (eqb x.meter meter) (has_meter meter (xs ++ ys)) parts.0 (has-join meter xs ys parts.1 second)
 
-other_way : (a b : ℕ) → eqb a b ≡ false → eqb b a ≡ false
+pub other_way : (a b : ℕ) → eqb a b ≡ false → eqb b a ≡ false
 other_way a b differ = false_from_ne_true _ (λ same. false≢true (sym differ ∙ (Decides-eqb a b).1 (sym ((Decides-eqb b a).0 same))))
 
 apart_push : (front rows : List Row) (row : Row) → has_meter row.meter rows ≡ false → Apart front rows → Apart (front ++ settled row ∷ []) rows
@@ -465,7 +468,7 @@ module _ (head : ℕ) (front : List (ℕ × Offered)) (serial : ℕ) (offer : Of
 
 -- ---- a campaign
 
-all_join : (front rest : List (List ℕ)) (book between next : Contents) → AddsAll front book between → AddsAll rest between next → AddsAll (front ++ rest) book next
+pub all_join : (front rest : List (List ℕ)) (book between next : Contents) → AddsAll front book between → AddsAll rest between next → AddsAll (front ++ rest) book next
 all_join [] rest book between next first second = subst (λ (c : Contents). AddsAll rest c next) first second
 all_join (bytes ∷ front) rest book between next first second = (first.0, first.1, all_join front rest first.0 between next first.2 second)
 
@@ -531,12 +534,13 @@ book_step admitted book front rest serial offer source made is split image recor
 abbrev pub IsShort : List ℕ → Type 0
 IsShort bytes = length bytes < 2 ^ 32
 
--- marks, cancellings, and the endings of as many rows as a campaign can have
-abbrev IsSmall : Entry → Type 0
+-- marks, cancellings, notes, and the endings of as many rows as a campaign can have
+abbrev pub IsSmall : Entry → Type 0
 IsSmall (opening campaign release source meters) = ⊥
 IsSmall (mark campaign meter e) = Unit {0}
 IsSmall (cancelling campaign) = Unit {0}
 IsSmall (endings campaign numbers) = length numbers ≤ 256
+IsSmall (note campaign told) = Unit {0}
 
 small_short : (bytes : List ℕ) (entry : Entry) → Spells bytes entry → IsSmall entry → IsShort bytes
 small_short bytes (opening campaign release source meters) spells small = absurd small
@@ -549,13 +553,16 @@ small_short bytes (cancelling campaign) spells small =
 small_short bytes (endings campaign numbers) spells small =
     let eight : length (campaign_bytes campaign) ≡ 8 = refl in
     omega (arith, ap (λ (l : List ℕ). length l) spells.spelled, small, eight, length-append (campaign_bytes campaign) numbers)
+small_short bytes (note campaign told) spells small =
+    let eight : length (campaign_bytes campaign) ≡ 8 = refl in
+    omega (arith, ap (λ (l : List ℕ). length l) spells.spelled, note_short told, eight, length-append (campaign_bytes campaign) (note_bytes told))
 
-all_short : (records : List (List ℕ)) (entries : List Entry) → SpellAll records entries → AllByRecursion IsSmall entries → AllByRecursion IsShort records
+pub all_short : (records : List (List ℕ)) (entries : List Entry) → SpellAll records entries → AllByRecursion IsSmall entries → AllByRecursion IsShort records
 all_short [] entries spell small = tt
 all_short (bytes ∷ records) [] spell small = absurd spell
 all_short (bytes ∷ records) (entry ∷ entries) spell small = (small_short bytes entry spell.0 small.0, all_short records entries spell.1 small.1)
 
-all_append : {X : Type 0} (P : X → Type 0) (xs ys : List X) → AllByRecursion P xs → AllByRecursion P ys → AllByRecursion P (xs ++ ys)
+pub all_append : {X : Type 0} (P : X → Type 0) (xs ys : List X) → AllByRecursion P xs → AllByRecursion P ys → AllByRecursion P (xs ++ ys)
 all_append P [] ys first second = second
 all_append P (x ∷ xs) ys first second = (first.0, all_append P xs ys first.1 second)
 
@@ -644,14 +651,14 @@ have_more front entry shown later new have noted =
 
 -- ---- what is put
 
-abbrev Vecs : Type 0
+abbrev pub Vecs : Type 0
 Vecs = List (Vec ℕ Global)
 
 pub records-join : (vs more : Vecs) → records_of (vs ++ more) ≡ records_of vs ++ records_of more
 records-join [] more = refl
 records-join (v ∷ vs) more = ap (λ (l : List (List ℕ)). v.items ∷ l) (records-join vs more)
 
-spell_join : (records more : List (List ℕ)) (xs ys : List Entry) → SpellAll records xs → SpellAll more ys → SpellAll (records ++ more) (xs ++ ys)
+pub spell_join : (records more : List (List ℕ)) (xs ys : List Entry) → SpellAll records xs → SpellAll more ys → SpellAll (records ++ more) (xs ++ ys)
 spell_join [] more [] ys first second = second
 spell_join [] more (x ∷ xs) ys first second = absurd first
 spell_join (bytes ∷ records) more [] ys first second = absurd first
@@ -679,7 +686,7 @@ pub record Goes (book : Contents) (front : List (ℕ × Offered)) (records : Vec
 pub goes_on : AdmittedOpens → (book : Contents) (front rest : List (ℕ × Offered)) (serial : ℕ) (offer : Offered) (source : Source) (records later : Vecs) (shown noted : List ℕ) → IsBook book → book.campaigns ≡ front ++ (serial, offer) ∷ rest
     → Goes book front records shown → IsImage (record { head = book.head; campaigns = front }) source offer.image → Puts records later (campaign_entries (record { head = book.head; serial = serial }) offer source)
     → (noted ≡ shown) ⊎ (noted ≡ shown ++ serial ∷ []) → Goes book (front ++ (serial, offer) ∷ []) later noted
-goes_on admitted book front rest serial offer source records later shown noted is split goes image puts note =
+goes_on admitted book front rest serial offer source records later shown noted is split goes image puts told =
     let entire : IsBook (record { head = book.head; campaigns = front ++ (serial, offer) ∷ rest }) = subst (λ (l : List (ℕ × Offered)). IsBook (record { head = book.head; campaigns = l })) split is in
     let admits = next_admitted (record { head = book.head; campaigns = front }) serial offer rest entire in
     let all : records_of later ≡ records_of records ++ records_of puts.more = ap (λ (l : Vecs). records_of l) puts.put ∙ records-join records puts.more in
@@ -690,7 +697,7 @@ goes_on admitted book front rest serial offer source records later shown noted i
       short = subst (λ (l : List (List ℕ)). AllByRecursion IsShort l) (sym all)
           (all_append IsShort (records_of records) (records_of puts.more) goes.short
           (campaign_short (record { head = book.head; campaigns = front }) (record { head = book.head; serial = serial }) offer source image admits.is_entry.image_ends admits.is_entry.meters_end (records_of puts.more) puts.spelled));
-      have = have_more front (serial, offer) shown noted admits.serial_new goes.have note;
+      have = have_more front (serial, offer) shown noted admits.serial_new goes.have told;
     }
 
 -- what a book says of a campaign in its middle

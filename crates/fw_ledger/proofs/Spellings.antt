@@ -6,7 +6,10 @@ use Rattle.std.proofs.lemmas.Nat.{from_be_bytes-to_be_bytes_4}
 use Rattle.fw_names.specs.Name.{Campaign, IsOpened, campaign_bytes}
 use Rattle.fw_ledger.specs.declared.record.Ending.{Ending}
 use Rattle.fw_ledger.specs.declared.record.Ending.TheVariants.{Done, Failed}
-use Rattle.fw_ledger.specs.Entry.{Source, whole, earlier, Entry, opening, mark, cancelling, endings, source_bytes, meters_bytes, ending_number, opening_front, mark_bytes, IsSource, MetersFit, Spells}
+use Rattle.fw_ledger.specs.declared.record.Note.{Note}
+use Rattle.fw_ledger.specs.Note.{note_bytes}
+use Rattle.fw_ledger.proofs.NoteSpellings.{note_unique}
+use Rattle.fw_ledger.specs.Entry.{Source, whole, earlier, Entry, opening, mark, cancelling, endings, note, source_bytes, meters_bytes, ending_number, opening_front, mark_bytes, IsSource, MetersFit, Spells}
 
 split_unique : (n : ℕ) (p q s t : List ℕ) → length p ≡ n → length q ≡ n → p ++ s ≡ q ++ t → (p ≡ q) × (s ≡ t)
 split_unique n p q s t hp hq e = (
@@ -90,6 +93,7 @@ same_entry bytes (opening a r x ms) (opening b q y ns) sa sb =
 same_entry bytes (opening a r x ms) (mark b n f) sa sb = absurd (omega (arith, (tail_of 1 2 (opening_front a r x ++ meters_bytes ms) (mark_bytes b n f) (sym sa.spelled ∙ sb.spelled)).0))
 same_entry bytes (opening a r x ms) (cancelling b) sa sb = absurd (omega (arith, (tail_of 1 3 (opening_front a r x ++ meters_bytes ms) (campaign_bytes b) (sym sa.spelled ∙ sb.spelled)).0))
 same_entry bytes (opening a r x ms) (endings b ns) sa sb = absurd (omega (arith, (tail_of 1 4 (opening_front a r x ++ meters_bytes ms) (campaign_bytes b ++ ns) (sym sa.spelled ∙ sb.spelled)).0))
+same_entry bytes (opening a r x ms) (note b n) sa sb = absurd (omega (arith, (tail_of 1 5 (opening_front a r x ++ meters_bytes ms) (campaign_bytes b ++ note_bytes n) (sym sa.spelled ∙ sb.spelled)).0))
 same_entry bytes (mark a m f) (opening b q y ns) sa sb = absurd (omega (arith, (tail_of 2 1 (mark_bytes a m f) (opening_front b q y ++ meters_bytes ns) (sym sa.spelled ∙ sb.spelled)).0))
 same_entry bytes (mark a m f) (mark b n g) sa sb =
     let e = (tail_of 2 2 (mark_bytes a m f) (mark_bytes b n g) (sym sa.spelled ∙ sb.spelled)).1 in
@@ -99,6 +103,7 @@ same_entry bytes (mark a m f) (mark b n g) sa sb =
     ap (λ (c : Campaign). mark c m f) campaigns.0 ∙ ap (λ (k : ℕ). mark b k f) meters.0 ∙ ap (λ (h : Ending). mark b n h) endings
 same_entry bytes (mark a m f) (cancelling b) sa sb = absurd (omega (arith, (tail_of 2 3 (mark_bytes a m f) (campaign_bytes b) (sym sa.spelled ∙ sb.spelled)).0))
 same_entry bytes (mark a m f) (endings b ns) sa sb = absurd (omega (arith, (tail_of 2 4 (mark_bytes a m f) (campaign_bytes b ++ ns) (sym sa.spelled ∙ sb.spelled)).0))
+same_entry bytes (mark a m f) (note b n) sa sb = absurd (omega (arith, (tail_of 2 5 (mark_bytes a m f) (campaign_bytes b ++ note_bytes n) (sym sa.spelled ∙ sb.spelled)).0))
 same_entry bytes (cancelling a) (opening b q y ns) sa sb = absurd (omega (arith, (tail_of 3 1 (campaign_bytes a) (opening_front b q y ++ meters_bytes ns) (sym sa.spelled ∙ sb.spelled)).0))
 same_entry bytes (cancelling a) (mark b n g) sa sb = absurd (omega (arith, (tail_of 3 2 (campaign_bytes a) (mark_bytes b n g) (sym sa.spelled ∙ sb.spelled)).0))
 same_entry bytes (cancelling a) (cancelling b) sa sb =
@@ -106,12 +111,21 @@ same_entry bytes (cancelling a) (cancelling b) sa sb =
     let whole_a : campaign_bytes a ++ [] ≡ campaign_bytes b ++ [] = append-nil (campaign_bytes a) ∙ e ∙ sym (append-nil (campaign_bytes b)) in
     ap (λ (c : Campaign). cancelling c) (campaign_unique a b [] [] sa.can sb.can whole_a).0
 same_entry bytes (cancelling a) (endings b ns) sa sb = absurd (omega (arith, (tail_of 3 4 (campaign_bytes a) (campaign_bytes b ++ ns) (sym sa.spelled ∙ sb.spelled)).0))
+same_entry bytes (cancelling a) (note b n) sa sb = absurd (omega (arith, (tail_of 3 5 (campaign_bytes a) (campaign_bytes b ++ note_bytes n) (sym sa.spelled ∙ sb.spelled)).0))
 same_entry bytes (endings a ms) (opening b q y ns) sa sb = absurd (omega (arith, (tail_of 4 1 (campaign_bytes a ++ ms) (opening_front b q y ++ meters_bytes ns) (sym sa.spelled ∙ sb.spelled)).0))
 same_entry bytes (endings a ms) (mark b n g) sa sb = absurd (omega (arith, (tail_of 4 2 (campaign_bytes a ++ ms) (mark_bytes b n g) (sym sa.spelled ∙ sb.spelled)).0))
 same_entry bytes (endings a ms) (cancelling b) sa sb = absurd (omega (arith, (tail_of 4 3 (campaign_bytes a ++ ms) (campaign_bytes b) (sym sa.spelled ∙ sb.spelled)).0))
 same_entry bytes (endings a ms) (endings b ns) sa sb =
     let same = campaign_unique a b ms ns sa.can.0 sb.can.0 (tail_of 4 4 (campaign_bytes a ++ ms) (campaign_bytes b ++ ns) (sym sa.spelled ∙ sb.spelled)).1 in
     ap (λ (c : Campaign). endings c ms) same.0 ∙ ap (λ (l : List ℕ). endings b l) same.1
+same_entry bytes (endings a ms) (note b n) sa sb = absurd (omega (arith, (tail_of 4 5 (campaign_bytes a ++ ms) (campaign_bytes b ++ note_bytes n) (sym sa.spelled ∙ sb.spelled)).0))
+same_entry bytes (note a m) (opening b q y ns) sa sb = absurd (omega (arith, (tail_of 5 1 (campaign_bytes a ++ note_bytes m) (opening_front b q y ++ meters_bytes ns) (sym sa.spelled ∙ sb.spelled)).0))
+same_entry bytes (note a m) (mark b n g) sa sb = absurd (omega (arith, (tail_of 5 2 (campaign_bytes a ++ note_bytes m) (mark_bytes b n g) (sym sa.spelled ∙ sb.spelled)).0))
+same_entry bytes (note a m) (cancelling b) sa sb = absurd (omega (arith, (tail_of 5 3 (campaign_bytes a ++ note_bytes m) (campaign_bytes b) (sym sa.spelled ∙ sb.spelled)).0))
+same_entry bytes (note a m) (endings b ns) sa sb = absurd (omega (arith, (tail_of 5 4 (campaign_bytes a ++ note_bytes m) (campaign_bytes b ++ ns) (sym sa.spelled ∙ sb.spelled)).0))
+same_entry bytes (note a m) (note b n) sa sb =
+    let same = campaign_unique a b (note_bytes m) (note_bytes n) sa.can sb.can (tail_of 5 5 (campaign_bytes a ++ note_bytes m) (campaign_bytes b ++ note_bytes n) (sym sa.spelled ∙ sb.spelled)).1 in
+    ap (λ (c : Campaign). note c m) same.0 ∙ ap (λ (t : Note). note b t) (note_unique m n sa.fit sb.fit same.1)
 
 pub record_unique : (bytes : List ℕ) (a b : Entry) → Spells bytes a → Spells bytes b → a ≡ b
 record_unique = same_entry

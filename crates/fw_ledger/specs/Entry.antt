@@ -1,12 +1,15 @@
 -- The records of a kept book, version 1 (own). An opening has 01, its campaign, its release, its image, and the numbers of its meters in
 -- the order given up to its end; a mark 02, its campaign, the number of the meter, and how the row ended; a cancelling 03, and its campaign;
--- endings 04, their campaign, and a byte for each of its rows. A number has four bytes, high byte first.
+-- endings 04, their campaign, and a byte for each of its rows; a note 05, its campaign, and what is noted. A number has four bytes, high
+-- byte first.
 use Rattle.std.specs.Prelude.{◌≡◌, ◌≢◌, ℕ, ◌<◌, ◌%◌, ◌^◌, true, nat_lt, List, [], ◌∷◌, ◌++◌, length}
 use Rattle.std.specs.List.{flat_map, list_all, list_any, AllByRecursion}
 use Rattle.std.specs.Int.{w32, to_be_bytes}
 use Rattle.fw_names.specs.Name.{Campaign, IsOpened, campaign_bytes}
 use Rattle.fw_ledger.specs.declared.record.Ending.{Ending}
 use Rattle.fw_ledger.specs.declared.record.Ending.TheVariants.{Done, Failed}
+use Rattle.fw_ledger.specs.declared.record.Note.{Note}
+use Rattle.fw_ledger.specs.Note.{note_bytes, NoteFits}
 
 -- where an opening has its image from: the record has it whole, or the campaign with this serial number offers it
 pub data Source : Type 0 where
@@ -14,12 +17,13 @@ pub data Source : Type 0 where
   earlier : ℕ → Source
 
 -- what a record says: a campaign was opened, with a release and an image, for these meters; or a meter's row in it ended; or it was
--- cancelled; or of each of its rows, in their order, by a number, whether it ended and how
+-- cancelled; or of each of its rows, in their order, by a number, whether it ended and how; or when it was opened, or how a row of it ended
 pub data Entry : Type 0 where
   opening : Campaign → ℕ → Source → List ℕ → Entry
   mark : Campaign → ℕ → Ending → Entry
   cancelling : Campaign → Entry
   endings : Campaign → List ℕ → Entry
+  note : Campaign → Note → Entry
 
 -- 01, the size of the image, and the image; or 02, and the serial number
 abbrev pub source_bytes : Source → List ℕ
@@ -49,6 +53,7 @@ entry_bytes (opening campaign release image meters) = 1 ∷ (opening_front campa
 entry_bytes (mark campaign meter ending) = 2 ∷ mark_bytes campaign meter ending
 entry_bytes (cancelling campaign) = 3 ∷ campaign_bytes campaign
 entry_bytes (endings campaign numbers) = 4 ∷ (campaign_bytes campaign ++ numbers)
+entry_bytes (note campaign told) = 5 ∷ (campaign_bytes campaign ++ note_bytes told)
 
 -- an image of which the size has four bytes, or a serial number that has
 abbrev pub IsSource : Source → Type 0
@@ -64,13 +69,15 @@ HasSpelling (opening campaign release image meters) = IsOpened campaign × IsSou
 HasSpelling (mark campaign meter ending) = IsOpened campaign
 HasSpelling (cancelling campaign) = IsOpened campaign
 HasSpelling (endings campaign numbers) = IsOpened campaign × AreEndings numbers
+HasSpelling (note campaign told) = IsOpened campaign
 
--- the numbers have four bytes
+-- the numbers have the bytes in which they are spelled
 abbrev pub NumbersFit : Entry → Type 0
 NumbersFit (opening campaign release image meters) = (release < 2 ^ 32) × MetersFit meters
 NumbersFit (mark campaign meter ending) = meter < 2 ^ 32
 NumbersFit (cancelling campaign) = Unit {0}
 NumbersFit (endings campaign numbers) = Unit {0}
+NumbersFit (note campaign told) = NoteFits told
 
 -- the bytes are the one spelling of this record
 pub record Spells (bytes : List ℕ) (entry : Entry) : Type 0 where
@@ -94,6 +101,25 @@ IsOpening (opening campaign release image meters) = Unit {0}
 IsOpening (mark campaign meter ending) = ⊥
 IsOpening (cancelling campaign) = ⊥
 IsOpening (endings campaign numbers) = ⊥
+IsOpening (note campaign told) = ⊥
+
+-- it is a note
+abbrev pub IsNote : Entry → Type 0
+IsNote (opening campaign release image meters) = ⊥
+IsNote (mark campaign meter ending) = ⊥
+IsNote (cancelling campaign) = ⊥
+IsNote (endings campaign numbers) = ⊥
+IsNote (note campaign told) = Unit {0}
+
+-- the bytes spell a note
+abbrev pub SpellsNote : List ℕ → Type 0
+SpellsNote bytes = (entry : Entry) × Spells bytes entry × IsNote entry
+
+-- the byte strings spell these records
+abbrev pub SpellAll : List (List ℕ) → List Entry → Type 0
+SpellAll [] [] = Unit {0}
+SpellAll (bytes ∷ records) (entry ∷ entries) = Spells bytes entry × SpellAll records entries
+SpellAll _ _ = ⊥
 
 -- the bytes begin with an opening's fields, up to its meters
 pub record BeginsOpening (bytes : List ℕ) : Type 0 where

@@ -1,7 +1,7 @@
 -- For private clauses alone: the records of which a book is made again. For each of its campaigns, in their order, there is its opening,
--- the endings of its rows, where one is done or failed, and its cancelling, where one is cancelled.
-use Rattle.std.specs.Prelude.{ℕ, Bool, true, false, nat_eq, nat_lt, map, is_some, ◌≡◌, List, [], ◌∷◌, ◌++◌, Vec, if◌then◌else◌}
-use Rattle.std.specs.List.{list_any, AllByRecursion}
+-- the endings of its rows, where one is done or failed, and its cancelling, where one is cancelled; and then what is known of it.
+use Rattle.std.specs.Prelude.{ℕ, Option, Some, None, Bool, true, false, nat_eq, nat_lt, map, is_some, ◌≡◌, List, [], ◌∷◌, ◌++◌, Vec, if◌then◌else◌}
+use Rattle.std.specs.List.{flat_map, list_any, AllByRecursion}
 use Rattle.std.specs.Map.{lookup}
 use Rattle.std.specs.declared.alloc.Global.{Global}
 use Rattle.fw_names.specs.Name.{Campaign}
@@ -10,8 +10,11 @@ use Rattle.fw_book.specs.declared.row.RowState.{RowState}
 use Rattle.fw_book.specs.declared.row.RowState.TheVariants.{Live, Done, Failed, Cancelled}
 use Rattle.fw_book.specs.Rows.{meters_of}
 use Rattle.fw_book.specs.Contents.{Offered}
-use Rattle.fw_ledger.specs.Entry.{Source, Entry, opening, cancelling, endings, Spells}
-use Rattle.fw_ledger.specs.Replay.{records_of}
+use Rattle.fw_book.specs.Notes.{Known, opened_at, end_of}
+use Rattle.fw_book.specs.declared.notes.End.{End}
+use Rattle.fw_ledger.specs.declared.record.Note.TheVariants.{Opened, Ended}
+use Rattle.fw_ledger.specs.Entry.{Source, Entry, opening, cancelling, endings, note, SpellAll}
+use Rattle.fw_ledger.specs.Replay.{ends_so, records_of}
 
 abbrev pub is_cancelled : RowState → Bool
 is_cancelled Live = false
@@ -46,11 +49,22 @@ abbrev pub campaign_entries : Campaign → Offered → Source → List Entry
 campaign_entries campaign offer source =
     opening campaign offer.release source (meters_of offer.rows) ∷ (rows_entries campaign offer.rows ++ ending_entries campaign offer.rows)
 
--- the byte strings spell these records
-abbrev pub SpellAll : List (List ℕ) → List Entry → Type 0
-SpellAll [] [] = Unit {0}
-SpellAll (bytes ∷ records) (entry ∷ entries) = Spells bytes entry × SpellAll records entries
-SpellAll _ _ = ⊥
+-- the note of a campaign's opening, if its time is known
+abbrev pub opening_notes : Campaign → Option ℕ → List Entry
+opening_notes campaign None = []
+opening_notes campaign (Some at) = note campaign (Opened at) ∷ []
+
+-- the note of a row's end, if one is known and the row ended so
+abbrev pub row_notes : Campaign → Row → Option End → List Entry
+row_notes campaign row None = []
+row_notes campaign row (Some told) = if ends_so row.state told then note campaign (Ended row.meter told) ∷ [] else []
+
+abbrev pub rows_notes : Known → Campaign → List Row → List Entry
+rows_notes known campaign rows = flat_map (λ (row : Row). row_notes campaign row (end_of known campaign.serial row.meter)) rows
+
+-- what is known of a campaign with these rows
+abbrev pub campaign_notes : Known → Campaign → List Row → List Entry
+campaign_notes known campaign rows = opening_notes campaign (opened_at known campaign.serial) ++ rows_notes known campaign rows
 
 -- what records are put after those that are there
 pub record Puts (old new : List (Vec ℕ Global)) (entries : List Entry) : Type 0 where

@@ -1,16 +1,19 @@
 -- Public vocabulary: the book of a list of records. It is what fw_book's own operations make of a book without campaigns, one record after
 -- the other.
-use Rattle.std.specs.Prelude.{◌≡◌, ◌⊎◌, ℕ, ◌≤◌, List, [], ◌∷◌, ◌++◌, length, Some, None, Vec}
+use Rattle.std.specs.Prelude.{◌≡◌, ◌⊎◌, ℕ, ◌≤◌, Bool, true, false, is_none, List, [], ◌∷◌, ◌++◌, length, Some, None, IsSome, Vec}
 use Rattle.std.specs.declared.alloc.Global.{Global}
 use Rattle.fw_names.specs.Name.{Campaign}
 use Rattle.fw_book.specs.declared.row.RowState.{RowState}
 use Rattle.fw_book.specs.declared.row.RowState.TheVariants as row
 use Rattle.fw_book.specs.Rows.{meters_of}
-use Rattle.fw_book.specs.Contents.{Offered, Contents, offered_in, image_in}
+use Rattle.fw_book.specs.Contents.{Offered, Contents, offered_in, image_in, state_in}
+use Rattle.fw_book.specs.declared.notes.End.{End}
 use Rattle.fw_book.specs.Changes.{empty_book, opened, marked, cancelled, opening_refusal, mark_refusal, cancel_refusal}
 use Rattle.fw_ledger.specs.declared.record.Ending.{Ending}
 use Rattle.fw_ledger.specs.declared.record.Ending.TheVariants as ending
-use Rattle.fw_ledger.specs.Entry.{Source, whole, earlier, Entry, opening, mark, cancelling, endings, ending_number, Spells, BeginsOpening}
+use Rattle.fw_ledger.specs.declared.record.Note.{Note}
+use Rattle.fw_ledger.specs.declared.record.Note.TheVariants as noted
+use Rattle.fw_ledger.specs.Entry.{Source, whole, earlier, Entry, opening, mark, cancelling, endings, note, ending_number, Spells, BeginsOpening, SpellsNote}
 
 -- the state in which a row ends
 abbrev pub state_of : Ending → RowState
@@ -51,12 +54,31 @@ pub record MakesEnded (book : Contents) (campaign : Campaign) (numbers : List �
   pub offered : offered_in book campaign ≡ Some offer
   pub each : MakesEach book campaign (meters_of offer.rows) numbers next
 
--- what a record makes of a book
+-- a row in this state ended so: it is done, and no reason is told, or it failed
+abbrev pub ends_so : RowState → End → Bool
+ends_so row.Live told = false
+ends_so row.Done told = is_none told.reason
+ends_so row.Failed told = true
+ends_so row.Cancelled told = false
+
+-- a book has a row of the meter, and the row ended so
+pub record HasEnd (book : Contents) (campaign : Campaign) (meter : ℕ) (told : End) : Type 0 where
+  pub state : RowState
+  pub is_state : state_in book campaign meter ≡ Some state
+  pub ended : ends_so state told ≡ true
+
+-- what is noted is of a campaign that the book has, or of a row of it that ended so
+abbrev pub IsNoteOf : Contents → Campaign → Note → Type 0
+IsNoteOf book campaign (noted.Opened at) = IsSome (offered_in book campaign)
+IsNoteOf book campaign (noted.Ended meter told) = HasEnd book campaign meter told
+
+-- what a record makes of a book: a note makes nothing of it, and is refused if it isn't of the book
 abbrev pub Makes : Entry → Contents → Contents → Type 0
 Makes (opening campaign release source meters) book next = MakesOpened book campaign release source meters next
 Makes (mark campaign meter e) book next = MakesMarked book campaign meter e next
 Makes (cancelling campaign) book next = (cancel_refusal book campaign ≡ None) × (next ≡ cancelled book campaign.serial)
 Makes (endings campaign numbers) book next = MakesEnded book campaign numbers next
+Makes (note campaign told) book next = IsNoteOf book campaign told × (next ≡ book)
 
 -- the record that these bytes spell makes this of a book
 pub record Adds (bytes : List ℕ) (book next : Contents) : Type 0 where
@@ -91,13 +113,13 @@ pub record FailsAt (head : ℕ) (records : List (List ℕ)) (index : ℕ) (bytes
   pub is_book : IsBookOf head front book
   pub nothing : AddsNothing bytes book
 
--- The records before one that begins as an opening have a book, so that memory may be taken for it.
-pub record ReachesOpening (head : ℕ) (records : List (List ℕ)) : Type 0 where
+-- The records before one that begins as an opening, or is a note, have a book, so that memory may be taken for it.
+pub record TakesMemory (head : ℕ) (records : List (List ℕ)) : Type 0 where
   pub front : List (List ℕ)
   pub bytes : List ℕ
   pub rest : List (List ℕ)
   pub split : records ≡ front ++ bytes ∷ rest
-  pub begins : BeginsOpening bytes
+  pub takes : BeginsOpening bytes ⊎ SpellsNote bytes
   pub book : Contents
   pub is_book : IsBookOf head front book
 

@@ -1,5 +1,5 @@
 -- What the code's records say.
-use Rattle.fw_ledger.specs.Entry.{Source, whole, earlier, Entry, opening, mark, cancelling, endings}
+use Rattle.fw_ledger.specs.Entry.{Source, whole, earlier, Entry, opening, mark, cancelling, endings, note}
 use Rattle.fw_ledger.specs.declared.record.Image.{Image}
 use Rattle.fw_ledger.specs.declared.record.Image.TheVariants as place
 use Rattle.fw_ledger.specs.declared.record.Record.{Record}
@@ -14,3 +14,4 @@ entry_of (told.Opening campaign release image meters) = opening campaign release
 entry_of (told.Mark campaign meter ending) = mark campaign meter ending
 entry_of (told.Cancelling campaign) = cancelling campaign
 entry_of (told.Endings campaign numbers) = endings campaign numbers.now
+entry_of (told.Note campaign noted) = note campaign noted

@@ -1,6 +1,6 @@
-//! Laws of records and of their book, over the definitions alone.
+//! Laws of records, of their book and of their notes, over the definitions alone.
 
-ghost use Rattle.fw_ledger.specs.Laws.{OneRecord, OneBook, FailedHaveNone, FrontsHaveBooks};
+ghost use Rattle.fw_ledger.specs.Laws.{OneRecord, OneBook, FailedHaveNone, FrontsHaveBooks, BooksHaveNotes, NotesGoOn, NothingNoted};
 
 /// A byte string spells at most one record.
 pub fn one_record()
@@ -20,4 +20,26 @@ pub fn failed_have_none()
 /// If records have a book, the first ones of them have one too: that of an earlier moment.
 pub fn fronts_have_books()
     ensures { FrontsHaveBooks }
+{}
+
+/// From the records of a book one thing is known, and it is of that book: of its campaigns, and of rows that ended so.
+pub fn books_have_notes()
+    ensures { BooksHaveNotes }
+{
+    fw_book::laws::notes_say();
+    fw_book::laws::images_stay();
+    fw_book::laws::states_follow();
+    fw_book::laws::admitted_opens();
+}
+
+/// What is known with one record more.
+pub fn notes_go_on()
+    ensures { NotesGoOn }
+{
+    fw_book::laws::notes_say();
+}
+
+/// From records without a note nothing is known: so it is with those of a book that was kept before there were notes.
+pub fn nothing_noted()
+    ensures { NothingNoted }
 {}

@@ -38,14 +38,15 @@ ghost use Rattle.fw_ledger.specs.Entry.{
 ghost use Rattle.fw_ledger.specs.View.{source_of, entry_of};
 
 use crate::error::RecordError;
+use crate::note_reading::note_at;
 use crate::record::{
-    CANCELLING, EARLIER, ENDINGS, Ending, Image, MARK, OPENING, Record, WHOLE, are_endings,
+    CANCELLING, EARLIER, ENDINGS, Ending, Image, MARK, NOTE, OPENING, Record, WHOLE, are_endings,
 };
 use fw_names::{CampaignId, HeadId, MeterId};
 use std::alloc::{AllocError, Global};
 
 /// A number of four bytes, high byte first, and what follows it.
-fn u32_at(bytes: &[u8]) -> Option<(u32, &[u8])>
+pub(crate) fn u32_at(bytes: &[u8]) -> Option<(u32, &[u8])>
     ensures found { IfSome result (λ r. bytes.now ≡ to_be_bytes w32 r.0 ++ r.1.now) }
     ensures fits { IfSome result (λ r. r.0 < 2 ^ 32) }
     ensures none { IfNone result (length bytes.now < 4) }
@@ -158,7 +159,7 @@ fn front_at(bytes: &[u8]) -> Option<Front<'_>>
 }
 
 /// A meter's number, and what follows it.
-fn meter_at(bytes: &[u8]) -> Option<(MeterId, &[u8])>
+pub(crate) fn meter_at(bytes: &[u8]) -> Option<(MeterId, &[u8])>
     ensures found { IfSome result (λ r. bytes.now ≡ to_be_bytes w32 r.0 ++ r.1.now) }
     ensures fits { IfSome result (λ r. r.0 < 2 ^ 32) }
     ensures none { IfNone result (length bytes.now < 4) }
@@ -262,6 +263,18 @@ fn endings_of(bytes: &[u8]) -> Option<Record<'_>>
     Some(Record::Endings { campaign, numbers })
 }
 
+/// A note, without its first byte.
+fn note_of(bytes: &[u8]) -> Option<Record<'_>>
+    ensures found { IfSome result (λ r. Spells (5 ∷ bytes.now) (entry_of r)) }
+    ensures none { IfNone result (NoRecord (5 ∷ bytes.now)) }
+{
+    let Some((campaign, rest)) = campaign_at(bytes) else {
+        return None;
+    };
+    let note = note_at(rest)?;
+    Some(Record::Note { campaign, note })
+}
+
 /// The record that these bytes spell. All of it except the numbers of its meters is judged before memory is taken.
 ///
 /// # Errors
@@ -277,6 +290,7 @@ pub fn read_record(alloc: Global, bytes: &[u8]) -> Result<Record<'_>, RecordErro
         [MARK, rest @ ..] => mark_of(rest).ok_or(RecordError::BadRecord),
         [CANCELLING, rest @ ..] => cancelling_of(rest).ok_or(RecordError::BadRecord),
         [ENDINGS, rest @ ..] => endings_of(rest).ok_or(RecordError::BadRecord),
+        [NOTE, rest @ ..] => note_of(rest).ok_or(RecordError::BadRecord),
         _ => Err(RecordError::BadRecord),
     }
 }

@@ -4,6 +4,7 @@ ghost use Rattle.std.specs.Prelude.{◌≡◌, nat_lt, MatchBool};
 ghost use Rattle.std.specs.List.{list_all, list_any};
 ghost use Rattle.fw_ledger.specs.Entry.{AreEndings};
 
+use fw_book::End;
 use fw_names::{CampaignId, MeterId};
 
 /// How a meter's row ended.
@@ -22,6 +23,15 @@ pub enum Image<'a> {
     Whole(&'a [u8]),
     /// The campaign with this serial number, which was opened before, offers it.
     Earlier(u32),
+}
+
+/// What is noted of a campaign beside its book.
+#[derive(Clone, Copy, Debug)]
+pub enum Note {
+    /// It was opened then: the seconds since 1970 began (UTC), as the clock of the head end had it.
+    Opened(u64),
+    /// The meter's row in it ended so.
+    Ended(MeterId, End),
 }
 
 /// What a record says.
@@ -50,6 +60,11 @@ pub enum Record<'a> {
         campaign: CampaignId,
         numbers: &'a [u8],
     },
+    /// When a campaign was opened, or when and why a row of it ended. It stands after the record of that, and changes nothing of the book.
+    Note {
+        campaign: CampaignId,
+        note: Note,
+    },
 }
 
 /// What the bytes of a record begin with.
@@ -61,10 +76,32 @@ pub(crate) const CANCELLING: u8 = 3;
 
 pub(crate) const ENDINGS: u8 = 4;
 
+pub(crate) const NOTE: u8 = 5;
+
 /// What the bytes of an image in a record begin with.
 pub(crate) const WHOLE: u8 = 1;
 
 pub(crate) const EARLIER: u8 = 2;
+
+/// What the bytes of a note begin with.
+pub(crate) const OPENED: u8 = 1;
+
+pub(crate) const ENDED: u8 = 2;
+
+/// What the bytes of an answer in a note begin with.
+pub(crate) const NUMBER: u8 = 1;
+
+pub(crate) const BITS: u8 = 2;
+
+pub(crate) const STATUS: u8 = 3;
+
+pub(crate) const NO_IMAGE: u8 = 4;
+
+pub(crate) const IMAGE: u8 = 5;
+
+pub(crate) const ACTIVE: u8 = 6;
+
+pub(crate) const CODE: u8 = 7;
 
 /// Whether these are the numbers of endings, or 0, and not 0 alone.
 pub(crate) fn are_endings(numbers: &[u8]) -> bool

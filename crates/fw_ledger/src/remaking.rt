@@ -1,4 +1,4 @@
-//! The records of which a book is made again.
+//! The records of which a book and what is known of it are made again.
 
 ghost use Rattle.std.specs.Prelude.{◌≡◌, ◌⊎◌, ◌++◌, ◌∷◌, [], ◌<◌, ◌≤◌, ◌^◌, ℕ, List, length, IfOk, OnOk, IsTrue};
 ghost use Rattle.std.specs.List.{AllByRecursion};
@@ -8,6 +8,7 @@ ghost use Rattle.fw_book.specs.Rows.{meters_of};
 ghost use Rattle.fw_ledger.specs.Entry.{earlier, IsSource, HasSpelling};
 ghost use Rattle.fw_ledger.specs.Replay.{IsImage, IsBookOf, IsMade, records_of};
 ghost use Rattle.fw_ledger.specs.View.{source_of, entry_of};
+ghost use Rattle.fw_ledger.specs.Noted.{AreNotesOf, IsKnownOf};
 ghost use Rattle.fw_ledger.specs.Remade.{
   is_cancelled,
   state_number,
@@ -16,34 +17,44 @@ ghost use Rattle.fw_ledger.specs.Remade.{
   has_cancelled,
   ending_entries,
   campaign_entries,
+  opening_notes,
+  row_notes,
+  rows_notes,
+  campaign_notes,
   Puts,
   HaveSerials,
 };
 
-use crate::record::{Image, Record, are_endings};
-use fw_book::{Book, Offer, Row, RowState};
+use crate::record::{Image, Note, Record, are_endings};
+use crate::replay::ends_so;
+use fw_book::{Book, End, Notes, Offer, Row, RowState};
 use fw_names::{CampaignId, HeadId, MeterId};
 use std::alloc::{AllocError, Global};
 
-/// Records of a book that some records made: they make the same book. For each campaign, in opening order, there is its opening, the endings
-/// of its rows, where one is done or failed, and its cancelling, where one is cancelled. An image that several campaigns offer stands in the
-/// first of their openings alone.
+/// Records of a book that some records made, and of what is known of it: they make the same book, and the same is known from them. For each
+/// campaign, in opening order, there is its opening, the endings of its rows, where one is done or failed, and its cancelling, where one is
+/// cancelled; and then the notes of its opening and of its rows' ends that are known. An image that several campaigns offer stands in the
+/// first of their openings alone. What isn't of the book is left out.
 ///
 /// # Errors
 ///
 /// `AllocError` if memory was refused.
-pub fn write_records(alloc: Global, book: &Book) -> Result<Vec<Vec<u8>>, AllocError>
+pub fn write_records(alloc: Global, book: &Book, notes: &Notes) -> Result<Vec<Vec<u8>>, AllocError>
     ensures made { IsMade book.now → IfOk result (λ records. IsBookOf book.now.head (records_of records.items) book.now) }
+    ensures noted { IsKnownOf book.now notes.now → IfOk result (λ records. AreNotesOf (records_of records.items) notes.now) }
     ensures short { IfOk result (λ records. AllByRecursion (λ (bytes : List ℕ). length bytes < 2 ^ 32) (records_of records.items)) }
 {
     fw_book::laws::admitted_opens();
+    fw_book::laws::notes_say();
     let head = book.head();
     let mut records = Vec::new(alloc);
     // The campaigns of which the records have the image whole.
     let mut shown = Vec::new(alloc);
     for (serial, offer) in book.rows() {
+        let own = campaign(head, *serial);
         let image = source(book, &shown, offer.image());
-        put_campaign(alloc, &mut records, campaign(head, *serial), offer, image)?;
+        put_campaign(alloc, &mut records, own, offer, image)?;
+        put_notes(alloc, &mut records, notes, own, offer.rows())?;
         note(&mut shown, *serial, image)?;
     }
     Ok(records)
@@ -122,6 +133,85 @@ fn put_campaign(
     put_endings(alloc, records, campaign, offer.rows())?;
     put_ending(alloc, records, campaign, offer.rows())?;
     Ok(())
+}
+
+/// Puts what is known of a campaign after what is there.
+fn put_notes(
+    alloc: Global,
+    records: &mut Vec<Vec<u8>>,
+    notes: &Notes,
+    campaign: CampaignId,
+    rows: &[Row],
+) -> Result<(), AllocError>
+    requires opened { IsOpened campaign }
+    ensures { OnOk result (Puts records.old.items records.new.items (campaign_notes notes.now campaign rows.now)) }
+{
+    put_opening_note(alloc, records, campaign, notes.opened_at(campaign))?;
+    put_rows_notes(alloc, records, notes, campaign, rows)?;
+    Ok(())
+}
+
+/// Puts the note of an opening after what is there, if its time is known.
+fn put_opening_note(
+    alloc: Global,
+    records: &mut Vec<Vec<u8>>,
+    campaign: CampaignId,
+    at: Option<u64>,
+) -> Result<(), AllocError>
+    requires opened { IsOpened campaign }
+    ensures { OnOk result (Puts records.old.items records.new.items (opening_notes campaign at)) }
+{
+    let Some(at) = at else {
+        return Ok(());
+    };
+    let note = Note::Opened(at);
+    put(alloc, records, &Record::Note { campaign, note })
+}
+
+/// Puts the notes of rows after what is there.
+fn put_rows_notes(
+    alloc: Global,
+    records: &mut Vec<Vec<u8>>,
+    notes: &Notes,
+    campaign: CampaignId,
+    rows: &[Row],
+) -> Result<(), AllocError>
+    requires opened { IsOpened campaign }
+    ensures { OnOk result (Puts records.old.items records.new.items (rows_notes notes.now campaign rows.now)) }
+{
+    let mut rest = rows;
+    while let Some((row, others)) = rest.split_first() {
+        put_row_note(
+            alloc,
+            records,
+            campaign,
+            row,
+            notes.end_of(campaign, row.meter),
+        )?;
+        rest = others;
+    }
+    Ok(())
+}
+
+/// Puts the note of a row's end after what is there, if one is known and the row ended so.
+fn put_row_note(
+    alloc: Global,
+    records: &mut Vec<Vec<u8>>,
+    campaign: CampaignId,
+    row: &Row,
+    end: Option<End>,
+) -> Result<(), AllocError>
+    requires opened { IsOpened campaign }
+    ensures { OnOk result (Puts records.old.items records.new.items (row_notes campaign row.now end)) }
+{
+    let Some(end) = end else {
+        return Ok(());
+    };
+    if !ends_so(row.state, &end) {
+        return Ok(());
+    }
+    let note = Note::Ended(row.meter, end);
+    put(alloc, records, &Record::Note { campaign, note })
 }
 
 /// Puts the cancelling of a campaign after what is there, where a row was cancelled.

@@ -1,4 +1,4 @@
-//! The book of a list of records.
+//! The book of a list of records, and what is known from their notes.
 
 ghost use Rattle.std.specs.Prelude.{
   ◌≡◌,
@@ -23,28 +23,33 @@ ghost use Rattle.std.specs.Option.{option_map, option_and_then};
 ghost use Rattle.fw_book.specs.declared.row.Row.{Row};
 ghost use Rattle.fw_book.specs.Contents.{Offered, Contents, offered_in, image_in};
 ghost use Rattle.fw_book.specs.Changes.{mark_refusal};
-ghost use Rattle.fw_ledger.specs.Entry.{IsOpening, BeginsOpening};
+ghost use Rattle.fw_book.specs.declared.notes.End.{End};
+ghost use Rattle.fw_ledger.specs.Entry.{Entry, IsOpening, IsNote, Spells, BeginsOpening, SpellsNote};
 ghost use Rattle.fw_ledger.specs.Replay.{
   MakesOpened,
   MakesMarked,
   MakesNumbered,
   MakesEnded,
+  ends_so,
+  HasEnd,
+  IsNoteOf,
   Makes,
   Adds,
   AddsNothing,
   IsBookOf,
   FailsAt,
-  ReachesOpening,
+  TakesMemory,
   records_of,
 };
+ghost use Rattle.fw_ledger.specs.Noted.{known_with, AreNotesOf};
 ghost use Rattle.fw_ledger.specs.View.{source_of, entry_of};
 
 use crate::error::{RecordError, ReplayError};
 use crate::reading::{ending_of, read_record};
-use crate::record::{Ending, Image, Record};
-use fw_book::{Book, BookError, RestoredBook};
+use crate::record::{Ending, Image, Note, Record};
+use fw_book::{Book, BookError, End, Notes, RestoredBook, RowState};
 use fw_names::{CampaignId, HeadId, MeterId};
-use std::alloc::Global;
+use std::alloc::{AllocError, Global};
 
 /// The image that a campaign of the book offers.
 fn earlier_image(alloc: Global, book: &Book, serial: u32) -> Result<Vec<u8>, BookError>
@@ -159,7 +164,38 @@ fn end_rows(book: &mut RestoredBook, campaign: CampaignId, numbers: &[u8]) -> Re
     Ok(())
 }
 
-/// Makes again what a record says.
+/// Whether a row in this state ended so.
+pub(crate) fn ends_so(state: RowState, end: &End) -> bool
+    ensures { result ≡ ends_so state end.now }
+{
+    match state {
+        RowState::Live | RowState::Cancelled => false,
+        RowState::Done => end.reason.is_none(),
+        RowState::Failed => true,
+    }
+}
+
+/// Whether the book has a row of the meter that ended so.
+fn has_end(book: &Book, campaign: CampaignId, meter: MeterId, end: &End) -> bool
+    ensures { MatchBool result (HasEnd book.now campaign meter end.now) (¬ HasEnd book.now campaign meter end.now) }
+{
+    match book.state(campaign, meter) {
+        Some(state) => ends_so(state, end),
+        None => false,
+    }
+}
+
+/// Whether what is noted is of this book.
+fn is_note_of(book: &Book, campaign: CampaignId, note: &Note) -> bool
+    ensures { MatchBool result (IsNoteOf book.now campaign note.now) (¬ IsNoteOf book.now campaign note.now) }
+{
+    match note {
+        Note::Opened(_) => book.offer(campaign).is_some(),
+        Note::Ended(meter, end) => has_end(book, campaign, *meter, end),
+    }
+}
+
+/// Makes again what a record says of the book.
 fn apply(alloc: Global, book: &mut RestoredBook, told: &Record<'_>) -> Result<(), BookError>
     ensures made { OnOk result (Makes (entry_of told.now) book.old book.new) }
     ensures refused { IfErr result (λ e. e ≢ BookError.OutOfMemory
@@ -180,47 +216,106 @@ fn apply(alloc: Global, book: &mut RestoredBook, told: &Record<'_>) -> Result<()
         } => remark(book, *campaign, *meter, *ending),
         Record::Cancelling { campaign } => book.cancel(*campaign),
         Record::Endings { campaign, numbers } => end_rows(book, *campaign, numbers),
+        Record::Note { campaign, note } => {
+            if is_note_of(book.book(), *campaign, note) {
+                Ok(())
+            } else {
+                Err(BookError::BadBook)
+            }
+        }
     }
 }
 
-/// Makes again what the record says that these bytes spell. A book that refused may have some of it.
-fn add(alloc: Global, book: &mut RestoredBook, bytes: &[u8]) -> Result<(), BookError>
+/// Notes what a record says, if it is a note.
+fn note(notes: &mut Notes, told: &Record<'_>) -> Result<(), AllocError>
+    ensures noted { OnOk result (notes.new ≡ known_with notes.old (entry_of told.now)) }
+    ensures memory { OnErr result (IsNote (entry_of told.now)) }
+{
+    match told {
+        Record::Note {
+            campaign,
+            note: Note::Opened(at),
+        } => notes.note_opening(*campaign, *at),
+        Record::Note {
+            campaign,
+            note: Note::Ended(meter, end),
+        } => notes.note_end(*campaign, *meter, *end),
+        _ => Ok(()),
+    }
+}
+
+/// Makes again what the record says that these bytes spell, and notes it. A book that refused may have some of it.
+fn add(
+    alloc: Global,
+    book: &mut RestoredBook,
+    notes: &mut Notes,
+    bytes: &[u8],
+) -> Result<(), BookError>
     ensures made { OnOk result (Adds bytes.now book.old book.new) }
+    ensures noted { OnOk result ((entry : Entry) × Spells bytes.now entry × (notes.new ≡ known_with notes.old entry)) }
     ensures refused { IfErr result (λ e. e ≢ BookError.OutOfMemory → AddsNothing bytes.now book.old) }
-    ensures memory { IsErrOf result BookError.OutOfMemory → BeginsOpening bytes.now }
+    ensures memory { IsErrOf result BookError.OutOfMemory → BeginsOpening bytes.now ⊎ SpellsNote bytes.now }
 {
     match read_record(alloc, bytes) {
-        Ok(record) => apply(alloc, book, &record),
+        Ok(record) => make(alloc, book, notes, &record),
         Err(RecordError::BadRecord) => Err(BookError::BadBook),
         Err(RecordError::OutOfMemory) => Err(BookError::OutOfMemory),
     }
 }
 
-/// The book of a head end that has these records: each campaign that they open, with what they say of its rows.
+/// Makes again what a record says, and notes it.
+fn make(
+    alloc: Global,
+    book: &mut RestoredBook,
+    notes: &mut Notes,
+    told: &Record<'_>,
+) -> Result<(), BookError>
+    ensures made { OnOk result (Makes (entry_of told.now) book.old book.new) }
+    ensures noted { OnOk result (notes.new ≡ known_with notes.old (entry_of told.now)) }
+    ensures refused { IfErr result (λ e. e ≢ BookError.OutOfMemory
+        → (next : Contents) → ¬ Makes (entry_of told.now) book.old next) }
+    ensures memory { IsErrOf result BookError.OutOfMemory → IsOpening (entry_of told.now) ⊎ IsNote (entry_of told.now) }
+{
+    apply(alloc, book, told)?;
+    match note(notes, told) {
+        Ok(()) => Ok(()),
+        Err(_) => Err(BookError::OutOfMemory),
+    }
+}
+
+/// The book of a head end that has these records: each campaign that they open, with what they say of its rows; and what is known from the
+/// notes among them.
 ///
 /// # Errors
 ///
 /// `BadRecord` with the index of the first record that spells none, or says what the book of those before it refuses, as a campaign of
-/// another head end. Otherwise `OutOfMemory` alone, and only for what begins as an opening, after records that have a book.
-pub fn read_records(alloc: Global, head: HeadId, records: &[Vec<u8>]) -> Result<Book, ReplayError>
-    ensures found { IfOk result (λ book. IsBookOf head (records_of records.now) book) }
+/// another head end, or a note of a row that hasn't ended so. Otherwise `OutOfMemory` alone, and only for what begins as an opening, or for
+/// a note, after records that have a book.
+pub fn read_records(
+    alloc: Global,
+    head: HeadId,
+    records: &[Vec<u8>],
+) -> Result<(Book, Notes), ReplayError>
+    ensures found { IfOk result (λ read. IsBookOf head (records_of records.now) read.0) }
+    ensures noted { IfOk result (λ read. AreNotesOf (records_of records.now) read.1) }
 
     // Records that have a book are read as that book.
     ensures unique { (book : Contents) → IsBookOf head (records_of records.now) book
-        → MatchResult result (λ found. found ≡ book) (λ e. e ≡ ReplayError.OutOfMemory) }
+        → MatchResult result (λ read. read.0 ≡ book) (λ e. e ≡ ReplayError.OutOfMemory) }
     ensures bad { (index : ℕ) → IsErrOf result (ReplayError.BadRecord index)
         → (bytes : List ℕ) × FailsAt head (records_of records.now) index bytes }
-    ensures memory { IsErrOf result ReplayError.OutOfMemory → ReachesOpening head (records_of records.now) }
+    ensures memory { IsErrOf result ReplayError.OutOfMemory → TakesMemory head (records_of records.now) }
 {
     let mut book = RestoredBook::new(alloc, head);
+    let mut notes = Notes::none(alloc);
     let mut rest = records;
     while let Some((bytes, others)) = rest.split_first() {
-        match add(alloc, &mut book, bytes.as_slice()) {
+        match add(alloc, &mut book, &mut notes, bytes.as_slice()) {
             Ok(()) => rest = others,
             Err(refusal) => return Err(replay_error(refusal, records.len() - rest.len())),
         }
     }
-    Ok(book.into_book())
+    Ok((book.into_book(), notes))
 }
 
 /// Why the record with this index has no place in the book.

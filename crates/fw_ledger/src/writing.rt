@@ -2,7 +2,7 @@
 
 ghost use Rattle.std.specs.Prelude.{◌≡◌, ◌<◌, ◌^◌, ◌++◌, IfOk, OnOk, IsErrOf, MatchBool};
 ghost use Rattle.std.specs.Int.{w32, to_be_bytes};
-ghost use Rattle.fw_names.specs.Name.{campaign_bytes};
+ghost use Rattle.fw_names.specs.Name.{IsCampaign, campaign_bytes};
 ghost use Rattle.fw_ledger.specs.Entry.{
   source_bytes,
   meters_bytes,
@@ -21,6 +21,7 @@ ghost use Rattle.fw_ledger.specs.Entry.{
 ghost use Rattle.fw_ledger.specs.View.{source_of, entry_of};
 
 use crate::error::RecordError;
+use crate::note_writing::noted_bytes;
 use crate::record::{
     CANCELLING, EARLIER, ENDINGS, Ending, Image, MARK, OPENING, Record, WHOLE, are_endings,
 };
@@ -30,15 +31,16 @@ use std::alloc::{AllocError, Global};
 const MAX_SIZE: usize = 1 << 32;
 
 /// Writes a number in four bytes, high byte first, after what is there.
-fn put_number(bytes: &mut Vec<u8>, number: u32) -> Result<(), AllocError>
+pub(crate) fn put_number(bytes: &mut Vec<u8>, number: u32) -> Result<(), AllocError>
     ensures ok { OnOk result (bytes.new.items ≡ bytes.old.items ++ to_be_bytes w32 number) }
 {
     Ok(bytes.extend_from_slice(&number.to_be_bytes())?)
 }
 
 /// Writes a campaign after what is there.
-fn put_campaign(bytes: &mut Vec<u8>, campaign: CampaignId) -> Result<(), AllocError>
+pub(crate) fn put_campaign(bytes: &mut Vec<u8>, campaign: CampaignId) -> Result<(), AllocError>
     ensures ok { OnOk result (bytes.new.items ≡ bytes.old.items ++ campaign_bytes campaign) }
+    ensures fits { IsCampaign campaign }
 {
     let head = match campaign.head() {
         Some(head) => head.number(),
@@ -99,9 +101,9 @@ impl Record<'_> {
                 image,
                 ..
             } => !campaign.is_factory() && fits(*image),
-            Record::Mark { campaign, .. } | Record::Cancelling { campaign } => {
-                !campaign.is_factory()
-            }
+            Record::Mark { campaign, .. }
+            | Record::Cancelling { campaign }
+            | Record::Note { campaign, .. } => !campaign.is_factory(),
             Record::Endings { campaign, numbers } => {
                 !campaign.is_factory() && are_endings(numbers)
             }
@@ -144,6 +146,7 @@ impl Record<'_> {
             } => mark_bytes(alloc, *campaign, *meter, *ending),
             Record::Cancelling { campaign } => cancelling_bytes(alloc, *campaign),
             Record::Endings { campaign, numbers } => endings_bytes(alloc, *campaign, numbers),
+            Record::Note { campaign, note } => noted_bytes(alloc, *campaign, *note),
         }
     }
 }

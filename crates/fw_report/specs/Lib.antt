@@ -4,6 +4,8 @@ pub mod Refusal
 pub mod Summary
 pub mod Table
 pub mod Json
+pub mod Failure
+pub mod Noted
 pub mod Forms
 pub mod Message
 pub mod Reason

@@ -70,11 +70,7 @@ fn rows_value(alloc: Global, rows: &[RowEntry]) -> Result<Value, AllocError>
 }
 
 /// Adds the value of each row.
-pub fn push_rows(
-    alloc: Global,
-    values: &mut Vec<Value>,
-    rows: &[RowEntry],
-) -> Result<(), AllocError>
+fn push_rows(alloc: Global, values: &mut Vec<Value>, rows: &[RowEntry]) -> Result<(), AllocError>
     ensures { OnOk result (map view values.new.items ≡ map view values.old.items ++ map (λ row. row_data row) rows.now) }
 {
     for row in rows {

@@ -2,10 +2,12 @@
 #![tactic(auto)]
 
 mod course;
+mod failure;
 mod forms;
-pub mod json;
+mod json;
 pub mod laws;
 mod message;
+mod noted;
 mod reason;
 mod refusal;
 mod report;
@@ -13,9 +15,11 @@ mod summary;
 pub mod table;
 mod trace;
 
+pub use failure::{append_failure, append_why};
 pub use forms::{ReportForm, Style, append_report_in};
 pub use message::{Message, ShownValue, Title, answered, asked, message_of};
+pub use noted::{NotedRow, append_noted, append_noted_csv, push_noted, push_noted_values};
 pub use refusal::Refusal;
 pub use report::{append_board, append_report, head_number, state_word};
-pub use summary::{RowEntry, push_book};
+pub use summary::RowEntry;
 pub use trace::{append_ends, append_message, append_trace_of};

@@ -105,7 +105,7 @@ fn push_head(rows: &mut Vec<RowEntry>, head: HeadId, world: &World) -> Result<()
 }
 
 /// Adds the rows of a book.
-pub fn push_book(rows: &mut Vec<RowEntry>, head: u32, book: &Book) -> Result<(), AllocError>
+fn push_book(rows: &mut Vec<RowEntry>, head: u32, book: &Book) -> Result<(), AllocError>
     ensures { OnOk result (rows.new.items
         ≡ rows.old.items ++ flat_map (λ entry. rows_of_campaign head entry) book.now.campaigns) }
 {

@@ -90,7 +90,7 @@ fn append_lines(
 }
 
 /// Appends a line for each row.
-pub fn append_rows(text: &mut String, rows: &[RowEntry]) -> Result<(), AllocError>
+fn append_rows(text: &mut String, rows: &[RowEntry]) -> Result<(), AllocError>
     ensures { OnOk result (string_bytes text.new ≡ string_bytes text.old ++ flat_map (λ row. row_cells row) rows.now) }
 {
     for row in rows {
@@ -134,7 +134,7 @@ fn append_meter(text: &mut String, meter: &MeterEntry) -> Result<(), AllocError>
 }
 
 /// Appends a number, and spaces to the end of its column.
-fn append_number(text: &mut String, number: u32) -> Result<(), AllocError>
+pub(crate) fn append_number(text: &mut String, number: u32) -> Result<(), AllocError>
     ensures { OnOk result (string_bytes text.new ≡ string_bytes text.old ++ number_cell number) }
 {
     let start = text.len();

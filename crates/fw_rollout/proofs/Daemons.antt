@@ -7,8 +7,9 @@ use Rattle.std.proofs.lemmas.List.Sums.{sum_by-cons}
 use Rattle.std.proofs.lemmas.Option.{none-some, same_Some, slice_get-map}
 use Rattle.std.specs.declared.net.socket_addr.SocketAddr.{SocketAddr}
 use Rattle.fw_book.specs.Contents.{Contents}
+use Rattle.fw_book.specs.declared.notes.End.{End}
 use Rattle.fw_book.specs.Laws.{StatesFollowCalls}
-use Rattle.fw_head.specs.Head.{Head, HeadHears, IsHead, IsOfferedIn, row_of, sends_to, ticked_head}
+use Rattle.fw_head.specs.Head.{Head, HeadHears, IsHead, IsOfferedIn, TellsReason, row_of, sends_to, ticked_head}
 use Rattle.fw_head.specs.Laws.{RowKeepsGoal}
 use Rattle.fw_head.specs.declared.news.News.{News}
 use Rattle.fw_head.specs.declared.news.News.TheVariants as news
@@ -109,20 +110,22 @@ module _ {D : Type 0} (honest : D → Bool) (contents : D → List ℕ) (may_lea
   is_listed old leader place at led there = subst (λ (ms : List Listed). Contains ms at) (sym led.meters) (at_place (listed_of old.schedule) place at there)
 
   module _ (old new : HeadDaemon D) (leader : Leader) (led : IsLed honest contents may_leave old leader) (place meter : ℕ) (from : SocketAddr) (there : slice_get (listed_of old.schedule) place ≡ Some (record { meter = meter; address = from }))
-      (datagram : List ℕ) (told : News) (hears_it : HeadHears (head_of (kept_of old)) meter datagram told (head_of (kept_of new))) (holds : Holds honest contents may_leave (kept_of new) leader.synced) where
+      (datagram : List ℕ) (told : News) (end : End) (hears_it : HeadHears (head_of (kept_of old)) meter datagram told (head_of (kept_of new))) (tells : TellsReason (head_of (kept_of old)) meter datagram told end.reason) (holds : Holds honest contents may_leave (kept_of new) leader.synced) where
     there_too : slice_get leader.meters place ≡ Some (record { meter = meter; address = from })
     there_too = ap (λ (ms : List Listed). slice_get ms place) led.meters ∙ there
 
-    heard_on : ended_of new ≡ ended_of old ++ ended_by told → All (IsNotedIn (head_of (kept_of new)).book) (leader.unsaved ++ ended_by told) → IsSchedule new.schedule → listed_of new.schedule ≡ listed_of old.schedule
+    heard_on : ended_of new ≡ ended_of old ++ ended_by told end → All (IsNotedIn (head_of (kept_of new)).book) (leader.unsaved ++ ended_by told end) → IsSchedule new.schedule → listed_of new.schedule ≡ listed_of old.schedule
         → lives_of new.schedule ≡ live_of (head_of (kept_of new)) leader.meters → HeardOn new leader from datagram (heard_of told)
     heard_on ended noted schedule listed lives = (
-      record leader { head = head_of (kept_of new); unsaved = leader.unsaved ++ ended_by told },
+      record leader { head = head_of (kept_of new); unsaved = leader.unsaved ++ ended_by told end },
       inl (
         record {
           meter = meter;
           listed = is_listed old leader place (record { meter = meter; address = from }) led there;
           heard = told;
+          end = end;
           takes = subst (λ (h : Head). HeadHears h meter datagram told (head_of (kept_of new))) (sym led.head) hears_it;
+          tells = subst (λ (h : Head). TellsReason h meter datagram told end.reason) (sym led.head) tells;
           others = refl;
         },
         refl,
@@ -132,7 +135,7 @@ module _ {D : Type 0} (honest : D → Bool) (contents : D → List ℕ) (may_lea
         meters = led.meters ∙ sym listed;
         list = led.list;
         head = refl;
-        unsaved = ap (λ (xs : List Ended). xs ++ ended_by told) led.unsaved ∙ sym ended;
+        unsaved = ap (λ (xs : List Ended). xs ++ ended_by told end) led.unsaved ∙ sym ended;
         noted = noted;
         schedule = schedule;
         lives = lives;
@@ -140,7 +143,7 @@ module _ {D : Type 0} (honest : D → Bool) (contents : D → List ℕ) (may_lea
     )
 
     -- nothing ended
-    heard_none : ended_by told ≡ [] → (head_of (kept_of new)).book ≡ (head_of (kept_of old)).book → ended_of new ≡ ended_of old → IsSchedule new.schedule → listed_of new.schedule ≡ listed_of old.schedule
+    heard_none : ended_by told end ≡ [] → (head_of (kept_of new)).book ≡ (head_of (kept_of old)).book → ended_of new ≡ ended_of old → IsSchedule new.schedule → listed_of new.schedule ≡ listed_of old.schedule
         → lives_of new.schedule ≡ live_of (head_of (kept_of new)) leader.meters → HeardOn new leader from datagram (heard_of told)
     heard_none none book ended schedule listed lives =
         let before : All (IsNotedIn (head_of (kept_of new)).book) leader.unsaved =
@@ -155,7 +158,7 @@ module _ {D : Type 0} (honest : D → Bool) (contents : D → List ℕ) (may_lea
         hears_nothing (head_of (kept_of old)) (head_of (kept_of new)) meter datagram
         (subst (λ (n : News). HeadHears (head_of (kept_of old)) meter datagram n (head_of (kept_of new))) nothing hears_it) in
         subst (λ (what : Heard). HeardOn new leader from datagram what) (ap heard_of nothing)
-        (heard_none (ap ended_by nothing) (ap (λ (h : Head). h.book) same) ended
+        (heard_none (ap (λ (n : News). ended_by n end) nothing) (ap (λ (h : Head). h.book) same) ended
         (subst (λ (s : Schedule). IsSchedule s) (sym schedule) led.schedule) (ap (λ (s : Schedule). listed_of s) schedule)
         (ap (λ (s : Schedule). lives_of s) schedule ∙ led.lives ∙ ap (λ (h : Head). live_of h leader.meters) (led.head ∙ sym same)))
 
@@ -172,16 +175,16 @@ module _ {D : Type 0} (honest : D → Bool) (contents : D → List ℕ) (may_lea
         let moves = hears_moved (head_of (kept_of old)) (head_of (kept_of new)) meter datagram
         (subst (λ (n : News). HeadHears (head_of (kept_of old)) meter datagram n (head_of (kept_of new))) moved hears_it) in
         subst (λ (what : Heard). HeardOn new leader from datagram what) (ap heard_of moved)
-        (heard_none (ap ended_by moved) moves.book ended schedule same.listed
+        (heard_none (ap (λ (n : News). ended_by n end) moved) moves.book ended schedule same.listed
         (same.lives ∙ led.lives ∙ ap (λ (h : Head). live_of h leader.meters) led.head
         ∙ sym (live_moved (head_of (kept_of old)) (head_of (kept_of new)) meter leader.meters moves)))
 
-    pub ended_on : StatesFollowCalls → RowKeepsGoal → IsHead (head_of (kept_of old)) → (one : Ended) → ended_by told ≡ one ∷ [] → ended_of new ≡ ended_of old ++ one ∷ [] → IsSchedule new.schedule
+    pub ended_on : StatesFollowCalls → RowKeepsGoal → IsHead (head_of (kept_of old)) → (one : Ended) → ended_by told end ≡ one ∷ [] → ended_of new ≡ ended_of old ++ one ∷ [] → IsSchedule new.schedule
         → EndsMeter place old.schedule new.schedule → heard_of told ≡ returned.Ended → HeardOn new leader from datagram returned.Ended
     ended_on follow keeps head one by ended schedule ends over =
         let was = head_of (kept_of old) in
         let is = head_of (kept_of new) in
-        let its = hears_end follow keeps was is meter datagram told one head hears_it by in
+        let its = hears_end follow keeps was is meter datagram told end one head hears_it by in
         let before : All (IsNotedIn was.book) leader.unsaved = subst (λ (h : Head). All (IsNotedIn h.book) leader.unsaved) led.head led.noted in
         subst (λ (what : Heard). HeardOn new leader from datagram what) over
         (heard_on (ended ∙ ap (λ (xs : List Ended). ended_of old ++ xs) (sym by))

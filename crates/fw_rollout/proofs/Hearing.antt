@@ -1,18 +1,22 @@
 -- What a datagram of one meter makes of a head end: of its book, and of which meters have a live row.
-use Rattle.std.proofs.Common.{◌≡◌, ◌≢◌, ◌⊎◌, ℕ, true, false, List, [], ◌∷◌, Option, Some, is_some, inl, inr, refl, sym, ap, subst, ◌∙◌}
+use Rattle.std.proofs.Common.{◌≡◌, ◌≢◌, ◌⊎◌, ℕ, true, false, List, [], ◌∷◌, Option, Some, None, is_some, inl, inr, refl, sym, ap, subst, ◌∙◌}
 use Rattle.fw_names.specs.Name.{Name, Campaign}
 use Rattle.fw_book.specs.declared.row.RowState.TheVariants as state
+use Rattle.fw_book.specs.declared.notes.End.{End}
+use Rattle.fw_book.specs.declared.notes.Reason.{Reason}
+use Rattle.fw_book.specs.Notes.{Known, with_ending}
 use Rattle.fw_book.specs.Contents.{state_in}
 use Rattle.fw_book.specs.Changes.{marked}
 use Rattle.fw_book.specs.Laws.{StatesFollowCalls}
 use Rattle.fw_head.specs.declared.news.News.{News}
 use Rattle.fw_head.specs.declared.news.News.TheVariants as news
+use Rattle.fw_head.specs.declared.news.Told.{Told}
 use Rattle.fw_head.specs.declared.news.RowNews.{RowNews}
 use Rattle.fw_head.specs.declared.news.RowNews.TheVariants as by
 use Rattle.fw_head.specs.Row.{Row}
-use Rattle.fw_head.specs.Head.{Head, IsHead, HeadHears, RowsMayWant, row_of, without_meter, went_on, news_of}
+use Rattle.fw_head.specs.Head.{Head, IsHead, HeadHears, RowsMayWant, TellsReason, row_of, without_meter, went_on, news_of}
 use Rattle.fw_head.specs.Laws.{RowKeepsGoal}
-use Rattle.fw_kept.specs.Head.{IsEnd, LosesMark, head_of}
+use Rattle.fw_kept.specs.Head.{IsEnd, LosesMark, head_of, known_heard}
 use Rattle.fw_kept.specs.declared.head.KeptHead.{KeptHead}
 use Rattle.fw_ledger.specs.declared.record.Ending.{Ending}
 use Rattle.fw_ledger.specs.declared.record.Ending.TheVariants as ends
@@ -27,7 +31,7 @@ nothing_took : (old new : Head) (meter : ℕ) (c : Campaign) (next : Row) (heard
 nothing_took old new meter c next by.Nothing told is = is
 nothing_took old new meter c next by.Moved told is = absurd (cc told)
 nothing_took old new meter c next (by.Done claim) told is = absurd (cc told)
-nothing_took old new meter c next by.Failed told is = absurd (cc told)
+nothing_took old new meter c next (by.Failed why) told is = absurd (cc told)
 
 pub hears_nothing : (old new : Head) (meter : ℕ) (datagram : List ℕ) → HeadHears old meter datagram news.Nothing new → new ≡ old
 hears_nothing old new meter datagram (inl takes) = nothing_took old new meter takes.row.name.campaign takes.next takes.heard takes.told_is takes.new_is
@@ -49,7 +53,7 @@ moved_took old new meter c next by.Moved live told is = record {
   rows = λ m. ap (λ (h : Head). is_some (row_of h.rows m)) is ∙ stays meter (λ was. next) old.rows m;
 }
 moved_took old new meter c next (by.Done claim) live told is = absurd (cc told)
-moved_took old new meter c next by.Failed live told is = absurd (cc told)
+moved_took old new meter c next (by.Failed why) live told is = absurd (cc told)
 
 no_move : (let n : News = news.Moved in n ≡ news.Nothing) → ⊥
 no_move e = cc
@@ -77,8 +81,8 @@ ended_state ends.Failed = λ is. cc
 abbrev left_of : Head → ℕ → ℕ → Ending → Head
 left_of head meter serial ending = record head { book = marked head.book serial meter (state_after ending); rows = without_meter meter head.rows }
 
-left_ends : StatesFollowCalls → (old new : Head) (meter : ℕ) (c : Campaign) (ending : Ending) → state_in old.book c meter ≡ Some state.Live → new ≡ left_of old meter c.serial ending → Ends old new meter (record { campaign = c; meter = meter; ending = ending })
-left_ends follow old new meter c ending live is = record {
+left_ends : StatesFollowCalls → (old new : Head) (meter : ℕ) (c : Campaign) (ending : Ending) (end : End) → state_in old.book c meter ≡ Some state.Live → new ≡ left_of old meter c.serial ending → Ends old new meter (record { campaign = c; meter = meter; ending = ending; end = end })
+left_ends follow old new meter c ending end live is = record {
   own = refl;
   noted = ap (λ (h : Head). state_in h.book c meter) is ∙ mark_notes follow old.book c meter (state_after ending) live;
   keeps = λ other was.
@@ -94,24 +98,24 @@ same_ended a b e = cc
 none_ended : (b : Ended) → (let xs : List Ended = [] in xs ≡ b ∷ []) → ⊥
 none_ended b e = cc
 
-ends_took : StatesFollowCalls → (old new : Head) (meter : ℕ) (row next : Row) (heard : RowNews) (told : News) (ended : Ended) → next.name ≡ row.name → state_in old.book row.name.campaign meter ≡ Some state.Live
-    → told ≡ news_of row.name.campaign meter heard → new ≡ went_on old meter next heard → ended_by told ≡ ended ∷ [] → Ends old new meter ended
-ends_took follow old new meter row next by.Nothing told ended same live tells is by = absurd (none_ended ended (sym (ap ended_by tells) ∙ by))
-ends_took follow old new meter row next by.Moved told ended same live tells is by = absurd (none_ended ended (sym (ap ended_by tells) ∙ by))
-ends_took follow old new meter row next (by.Done claim) told ended same live tells is by =
-    let e = same_ended (record { campaign = row.name.campaign; meter = meter; ending = ends.Done }) ended (sym (ap ended_by tells) ∙ by) in
+ends_took : StatesFollowCalls → (old new : Head) (meter : ℕ) (row next : Row) (heard : RowNews) (told : News) (end : End) (ended : Ended) → next.name ≡ row.name → state_in old.book row.name.campaign meter ≡ Some state.Live
+    → told ≡ news_of row.name.campaign meter heard → new ≡ went_on old meter next heard → ended_by told end ≡ ended ∷ [] → Ends old new meter ended
+ends_took follow old new meter row next by.Nothing told end ended same live tells is by = absurd (none_ended ended (sym (ap (λ (n : News). ended_by n end) tells) ∙ by))
+ends_took follow old new meter row next by.Moved told end ended same live tells is by = absurd (none_ended ended (sym (ap (λ (n : News). ended_by n end) tells) ∙ by))
+ends_took follow old new meter row next (by.Done claim) told end ended same live tells is by =
+    let e = same_ended (record { campaign = row.name.campaign; meter = meter; ending = ends.Done; end = end }) ended (sym (ap (λ (n : News). ended_by n end) tells) ∙ by) in
     subst (λ (x : Ended). Ends old new meter x) e
-    (left_ends follow old new meter row.name.campaign ends.Done live (is ∙ ap (λ (n : Name). left_of old meter n.campaign.serial ends.Done) same))
-ends_took follow old new meter row next by.Failed told ended same live tells is by =
-    let e = same_ended (record { campaign = row.name.campaign; meter = meter; ending = ends.Failed }) ended (sym (ap ended_by tells) ∙ by) in
+    (left_ends follow old new meter row.name.campaign ends.Done end live (is ∙ ap (λ (n : Name). left_of old meter n.campaign.serial ends.Done) same))
+ends_took follow old new meter row next (by.Failed why) told end ended same live tells is by =
+    let e = same_ended (record { campaign = row.name.campaign; meter = meter; ending = ends.Failed; end = end }) ended (sym (ap (λ (n : News). ended_by n end) tells) ∙ by) in
     subst (λ (x : Ended). Ends old new meter x) e
-    (left_ends follow old new meter row.name.campaign ends.Failed live (is ∙ ap (λ (n : Name). left_of old meter n.campaign.serial ends.Failed) same))
+    (left_ends follow old new meter row.name.campaign ends.Failed end live (is ∙ ap (λ (n : Name). left_of old meter n.campaign.serial ends.Failed) same))
 
-pub hears_end : StatesFollowCalls → RowKeepsGoal → (old new : Head) (meter : ℕ) (datagram : List ℕ) (told : News) (ended : Ended) → IsHead old → HeadHears old meter datagram told new → ended_by told ≡ ended ∷ [] → Ends old new meter ended
-hears_end follow keeps old new meter datagram told ended head (inl takes) by =
-    ends_took follow old new meter takes.row takes.next takes.heard told ended (keeps takes.row takes.next datagram takes.heard takes.hears).name
+pub hears_end : StatesFollowCalls → RowKeepsGoal → (old new : Head) (meter : ℕ) (datagram : List ℕ) (told : News) (end : End) (ended : Ended) → IsHead old → HeadHears old meter datagram told new → ended_by told end ≡ ended ∷ [] → Ends old new meter ended
+hears_end follow keeps old new meter datagram told end ended head (inl takes) by =
+    ends_took follow old new meter takes.row takes.next takes.heard told end ended (keeps takes.row takes.next datagram takes.heard takes.hears).name
     (head.of_book meter takes.row takes.found).live takes.told_is takes.new_is by
-hears_end follow keeps old new meter datagram told ended head (inr ignores) by = absurd (none_ended ended (sym (ap ended_by ignores.1) ∙ by))
+hears_end follow keeps old new meter datagram told end ended head (inr ignores) by = absurd (none_ended ended (sym (ap (λ (n : News). ended_by n end) ignores.1) ∙ by))
 
 -- ---- what a live row is there for
 
@@ -140,3 +144,17 @@ pub row_wanted : {D : Type 0} (old new : KeptHead D) (meter : ℕ) (datagram : L
     → is_some (row_of (head_of old).rows meter) ≡ true
 row_wanted old new meter datagram (inl wants) = ap (λ (o : Option Row). is_some o) wants.1
 row_wanted old new meter datagram (inr lost) = row_heard (head_of old) (head_of new) meter datagram lost.told lost.hears (λ e. subst (λ (n : News). IsEnd n) e lost.ends)
+
+-- ---- what is noted
+
+pub noted_as : (old new : Known) (at : ℕ) (told : Told) → new ≡ known_heard old told.news told.reason at → (next : News) → told.news ≡ next → new ≡ known_heard old next told.reason at
+noted_as old new at told noted next is = noted ∙ ap (λ (n : News). known_heard old n told.reason at) is
+
+-- a row that is done has no reason
+no_reason : (head : Head) (meter : ℕ) (datagram : List ℕ) (told : News) (why : Option Reason) (c : Campaign) (m : ℕ) → told ≡ news.Done c m → TellsReason head meter datagram told why → why ≡ None
+no_reason head meter datagram told why c m is tells = subst (λ (n : News). TellsReason head meter datagram n why) is tells
+
+pub done_noted : (old : Known) (head : Head) (meter : ℕ) (datagram : List ℕ) (told : News) (why : Option Reason) (at : ℕ) (c : Campaign) (m : ℕ) (new : Known)
+    → told ≡ news.Done c m → TellsReason head meter datagram told why → new ≡ known_heard old (news.Done c m) why at → new ≡ with_ending old c.serial m (record { at = at; reason = why })
+done_noted old head meter datagram told why at c m new is tells noted =
+    noted ∙ ap (λ (r : Option Reason). with_ending old c.serial m (record { at = at; reason = r })) (sym (no_reason head meter datagram told why c m is tells))

@@ -1,9 +1,10 @@
 -- Public vocabulary: the daemon of a head end as a value.
-use Rattle.std.specs.Prelude.{◌≡◌, ◌≢◌, ℕ, Bool, false, List, [], ◌∷◌, map, All, Contains, Some, None, is_some, slice_get, sum_by, count_by, ◌⊎◌, ◌+◌, ◌≤◌, Result, OnOk, OnErr, IsTrue}
+use Rattle.std.specs.Prelude.{◌≡◌, ◌≢◌, ℕ, Bool, false, List, [], ◌∷◌, ◌++◌, map, All, Contains, Some, None, is_some, slice_get, sum_by, count_by, ◌⊎◌, ◌+◌, ◌≤◌, Result, OnOk, OnErr, IsTrue}
 use Rattle.fw_book.specs.Contents.{Contents}
+use Rattle.fw_book.specs.Notes.{Known, with_ending}
 use Rattle.fw_head.specs.Head.{Head, row_of}
 use Rattle.fw_journal.specs.declared.device.JournalDevice
-use Rattle.fw_kept.specs.Head.{Holds, head_of}
+use Rattle.fw_kept.specs.Head.{Holds, head_of, known_of}
 use Rattle.fw_kept.specs.declared.head.KeptHead.{KeptHead}
 use Rattle.fw_rollout.specs.declared.daemon.Counts.{Counts}
 use Rattle.fw_rollout.specs.declared.daemon.HeadDaemon.{HeadDaemon}
@@ -100,6 +101,17 @@ resent_at now daemon = resent_in now (links_of daemon.schedule)
 -- the rows that ended and are not on the device yet
 abbrev pub ended_of : {D : Type 0} → HeadDaemon D → List Ended
 ended_of daemon = daemon.ended.items
+
+-- what is known of the book beside its states
+abbrev pub noted_in : {D : Type 0} → HeadDaemon D → Known
+noted_in daemon = known_of (kept_of daemon)
+
+-- One row more ended, at this time, and is noted so beside the book. Or none ended, and nothing is noted.
+abbrev pub EndsOneAt : {D : Type 0} → ℕ → HeadDaemon D → HeadDaemon D → Type 0
+EndsOneAt at old new =
+    ((ended_of new ≡ ended_of old) × (noted_in new ≡ noted_in old))
+    ⊎ ((one : Ended) × (ended_of new ≡ ended_of old ++ one ∷ []) × (one.end.at ≡ at)
+    × (noted_in new ≡ with_ending (noted_in old) one.campaign.serial one.meter one.end))
 
 -- since when they wait, once a row ended at this time besides these
 abbrev pub since_with : ℕ → List Ended → ℕ → ℕ

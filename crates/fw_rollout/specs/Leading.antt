@@ -4,9 +4,10 @@ use Rattle.std.specs.declared.net.socket_addr.SocketAddr.{SocketAddr}
 use Rattle.fw_book.specs.declared.row.RowState.{RowState}
 use Rattle.fw_book.specs.declared.row.RowState.TheVariants as state
 use Rattle.fw_book.specs.Contents.{Contents, state_in}
+use Rattle.fw_book.specs.declared.notes.End.{End}
 use Rattle.fw_head.specs.declared.news.News.{News}
 use Rattle.fw_head.specs.declared.news.News.TheVariants as news
-use Rattle.fw_head.specs.Head.{Head, HeadHears, IsOfferedIn, row_of, sends_to, ticked_head}
+use Rattle.fw_head.specs.Head.{Head, HeadHears, IsOfferedIn, TellsReason, row_of, sends_to, ticked_head}
 use Rattle.fw_ledger.specs.declared.record.Ending.{Ending}
 use Rattle.fw_ledger.specs.declared.record.Ending.TheVariants as ends
 use Rattle.fw_rollout.specs.declared.daemon.Heard.{Heard}
@@ -50,12 +51,12 @@ abbrev pub state_after : Ending → RowState
 state_after ends.Done = state.Done
 state_after ends.Failed = state.Failed
 
--- the row that ended, if one did
-abbrev pub ended_by : News → List Ended
-ended_by news.Nothing = []
-ended_by news.Moved = []
-ended_by (news.Done campaign meter) = record { campaign = campaign; meter = meter; ending = ends.Done } ∷ []
-ended_by (news.Failed campaign meter) = record { campaign = campaign; meter = meter; ending = ends.Failed } ∷ []
+-- the row that ended, if one did, with when and why
+abbrev pub ended_by : News → End → List Ended
+ended_by news.Nothing end = []
+ended_by news.Moved end = []
+ended_by (news.Done campaign meter) end = record { campaign = campaign; meter = meter; ending = ends.Done; end = end } ∷ []
+ended_by (news.Failed campaign meter) end = record { campaign = campaign; meter = meter; ending = ends.Failed; end = end } ∷ []
 
 abbrev pub IsListed : Leader → ℕ → SocketAddr → Type 0
 IsListed leader meter address = Contains leader.meters (record { meter = meter; address = address })
@@ -63,13 +64,16 @@ IsListed leader meter address = Contains leader.meters (record { meter = meter; 
 abbrev pub HasLiveRow : Leader → ℕ → Type 0
 HasLiveRow leader meter = is_some (row_of leader.head.rows meter) ≡ true
 
--- a datagram from the address of a meter is heard as that meter's, whatever number its bytes have
+-- A datagram from the address of a meter is heard as that meter's, whatever number its bytes have. A row that it gives up failed for the
+-- reason that is told of it.
 pub record HearsMeter (old : Leader) (from : SocketAddr) (datagram : List ℕ) (new : Leader) : Type 0 where
   pub meter : ℕ
   pub listed : IsListed old meter from
   pub heard : News
+  pub end : End
   pub takes : HeadHears old.head meter datagram heard new.head
-  pub others : new ≡ record old { head = new.head; unsaved = old.unsaved ++ ended_by heard }
+  pub tells : TellsReason old.head meter datagram heard end.reason
+  pub others : new ≡ record old { head = new.head; unsaved = old.unsaved ++ ended_by heard end }
 
 -- there is no memory for it, which is wanted only if the meter has a live row
 pub record HearsNot (old : Leader) (from : SocketAddr) (datagram : List ℕ) (new : Leader) : Type 0 where

@@ -21,7 +21,7 @@ max_tick = 15
 abbrev pub wait_after : ℕ → ℕ → ℕ
 wait_after resend trip = min (max (4 * trip) resend) longest_wait
 
--- a quarter longer than the last wait, after a silence in which nothing at all came
+-- the retry wait after a silence in which nothing at all came: a quarter longer than the last one
 abbrev pub lengthened : ℕ → ℕ
 lengthened wait = min (wait + wait / 4) longest_wait
 

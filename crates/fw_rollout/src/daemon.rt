@@ -47,6 +47,7 @@ ghost use Rattle.fw_rollout.specs.Counting.{
 };
 ghost use Rattle.fw_rollout.specs.Leading.{HasLiveRow, HearsAs, IsAboutToSend, IsAboutToTell, IsListed, Leader, SavesAll, TicksMeter};
 ghost use Rattle.fw_rollout.specs.Daemon.{
+  EndsOneAt,
   HasRunOut,
   IsAskedBy,
   IsDueBy,
@@ -83,7 +84,8 @@ use crate::link::{Answer, Listed};
 use crate::meters::MeterList;
 use crate::schedule::Schedule;
 use crate::timing::Timing;
-use fw_head::{HeadCore, News, OutOfMemory};
+use fw_book::End;
+use fw_head::{HeadCore, News, OutOfMemory, Told};
 use fw_journal::JournalDevice;
 use fw_kept::KeptHead;
 use fw_ledger::Ending;
@@ -266,12 +268,19 @@ impl<D: JournalDevice + Drop> HeadDaemon<D> {
         }))
     }
 
-    /// Hears a datagram that came from an address at this time, as from the meter that has the address in the list.
+    /// Hears a datagram that came from an address at this time, as from the meter that has the address in the list. A row that it ends did so
+    /// `at` these seconds since 1970 began (UTC).
     ///
     /// # Errors
     ///
     /// `OutOfMemory` alone. A row may have ended then whose mark isn't on the device and never will be.
-    pub fn heard(&mut self, now: u64, from: SocketAddr, datagram: &[u8]) -> Result<Heard, Stop>
+    pub fn heard(
+        &mut self,
+        now: u64,
+        at: u64,
+        from: SocketAddr,
+        datagram: &[u8],
+    ) -> Result<Heard, Stop>
         ensures hears { (leader : Leader) → IsLed D.honest D.contents D.may_leave self.old leader
             → IfOk result (λ heard. (next : Leader) × HearsAs leader from datagram.now heard next
             × IsLed D.honest D.contents D.may_leave self.new next) }
@@ -279,6 +288,9 @@ impl<D: JournalDevice + Drop> HeadDaemon<D> {
         // When a meter that answered is asked again follows from what the answer leaves of what was asked: a meter that isn't ready pauses.
         ensures takes { (leader : Leader) → IsLed D.honest D.contents D.may_leave self.old leader
             → IfOk result (λ heard. heard ≡ Heard.Moved → TakesAnswer now from datagram.now self.old self.new) }
+
+        // A row that ends did so at that time, and this and the reason are noted beside the book.
+        ensures ended { OnOk result (EndsOneAt at self.old self.new) }
 
         // The rows that ended wait since the first of them did.
         ensures since { IfOk result (λ what. since_of self.new ≡ since_after what now (ended_of self.old) (since_of self.old)) }
@@ -303,7 +315,9 @@ impl<D: JournalDevice + Drop> HeadDaemon<D> {
         count(&mut self.counts.received);
         let has_row = self.has_row(meter);
         make_room(&mut self.ended, has_row)?;
-        match self.kept.hear(self.alloc, meter, datagram)? {
+        let Told { news, reason } = self.kept.hear(self.alloc, meter, datagram, at)?;
+        let end = End { at, reason };
+        match news {
             News::Nothing => Ok(Heard::Nothing),
             News::Moved => {
                 let answer = self.answer_of(meter, datagram)?;
@@ -311,11 +325,11 @@ impl<D: JournalDevice + Drop> HeadDaemon<D> {
                 Ok(Heard::Moved)
             }
             News::Done(campaign, meter) => {
-                self.end(place, now, campaign, meter, Ending::Done)?;
+                self.end_row(place, now, campaign, meter, Ending::Done, end)?;
                 Ok(Heard::Ended)
             }
             News::Failed(campaign, meter) => {
-                self.end(place, now, campaign, meter, Ending::Failed)?;
+                self.end_row(place, now, campaign, meter, Ending::Failed, end)?;
                 Ok(Heard::Ended)
             }
         }
@@ -346,17 +360,18 @@ impl<D: JournalDevice + Drop> HeadDaemon<D> {
     }
 
     /// The row of the meter at this place ended.
-    fn end(
+    fn end_row(
         &mut self,
         place: usize,
         now: u64,
         campaign: CampaignId,
         meter: MeterId,
         ending: Ending,
+        end: End,
     ) -> Result<(), Stop>
         ensures kept { kept_of self.new ≡ kept_of self.old }
         ensures ended { OnOk result (ended_of self.new
-            ≡ ended_of self.old ++ record { campaign = campaign; meter = meter; ending = ending } ∷ []) }
+            ≡ ended_of self.old ++ record { campaign = campaign; meter = meter; ending = ending; end = end } ∷ []) }
         ensures since { since_of self.new ≡ since_with now (ended_of self.old) (since_of self.old) }
         ensures counts { counted_of self.new ≡ counted_of self.old }
         ensures resends { self.new.schedule.resends ≡ self.old.schedule.resends }
@@ -370,6 +385,7 @@ impl<D: JournalDevice + Drop> HeadDaemon<D> {
             campaign,
             meter,
             ending,
+            end,
         })?;
         Ok(())
     }

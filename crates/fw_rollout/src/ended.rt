@@ -1,5 +1,6 @@
 //! Rows that ended.
 
+use fw_book::End;
 use fw_ledger::Ending;
 use fw_names::{CampaignId, MeterId};
 
@@ -12,4 +13,6 @@ pub struct Ended {
     pub meter: MeterId,
     /// How it ended.
     pub ending: Ending,
+    /// When that was, and why the row was given up, if it was.
+    pub end: End,
 }

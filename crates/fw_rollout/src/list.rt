@@ -15,12 +15,16 @@ use fw_port::{Datagram, Deed, ListPort, Rule};
 use std::alloc::Global;
 use std::sync::Wait;
 
-/// A port in memory reports what it is told.
+/// A port in memory reports what it is told. Its time began with 1970.
 impl<'a, R: Wait, L: Rule<Ended>> HeadPort for ListPort<'a, R, Ended, L> {
     ghost time = { λ p. p.time };
 
     fn now(&self) -> u64 {
         self.time()
+    }
+
+    fn date(&self) -> u64 {
+        self.time() / 1_000_000
     }
 
     fn tell(&mut self, ended: Ended) {

@@ -119,7 +119,8 @@ fn receive<P: HeadPort, D: JournalDevice + Drop>(
         return Ok(());
     };
     *now = port.now();
-    daemon.heard(*now, arrival.from, &buffer[..arrival.count])?;
+    let date = port.date();
+    daemon.heard(*now, date, arrival.from, &buffer[..arrival.count])?;
     Ok(())
 }
 

@@ -32,7 +32,7 @@ pub(crate) fn wait_after(resend: u64, trip: u64) -> u64
     trip.saturating_mul(4).max(resend).min(LONGEST_WAIT)
 }
 
-/// How long an answer is waited for after a silence of this time (backoff): a quarter longer. If a fifth is lost in each direction, of many
+/// The retry wait after a silence of this time (backoff): a quarter longer. If a fifth is lost in each direction, of many
 /// meters some are silent seven times in a row, and twice as long each time would be the longest wait then.
 pub(crate) fn lengthened(wait: u64) -> u64
     ensures { result ≡ lengthened wait }

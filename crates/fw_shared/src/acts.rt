@@ -39,7 +39,8 @@ ghost use Rattle.fw_book.specs.Contents.{image_in};
 ghost use Rattle.fw_image.specs.State.{Turns};
 ghost use Rattle.fw_head.specs.Head.{news_of};
 ghost use Rattle.fw_head.specs.Phase.{has_ended};
-ghost use Rattle.fw_head.specs.Row.{bytes_of};
+ghost use Rattle.fw_head.specs.Row.{RowHears, bytes_of};
+ghost use Rattle.fw_head.specs.declared.news.RowNews.{RowNews};
 ghost use Rattle.fw_world.specs.State.{sent_to};
 ghost use Rattle.fw_meter.specs.Handling.{reply_bytes};
 ghost use Rattle.fw_world.specs.Step.{deliver, replies, tick, turn};
@@ -392,10 +393,10 @@ impl Shard {
         };
         let row = &mut self.rows[at];
         let campaign = row.name().campaign;
-        let told = row.hear(alloc, &datagram.bytes)?;
+        let news = heard(alloc, row, campaign, meter, &datagram.bytes)?;
         let left = Snapshot::of(self);
         let act = Recording { event, room, left };
-        Ok((act, news_of(campaign, meter, told)))
+        Ok((act, news))
     }
 }
 
@@ -434,6 +435,27 @@ fn is_live(row: &RowCore) -> bool
     !matches!(row.phase(), Phase::Done | Phase::Failed)
 }
 
+/// A row hears a datagram: what its head end reports of it.
+///
+/// # Errors
+///
+/// Out of memory alone. The row is then as before.
+fn heard(
+    alloc: Global,
+    row: &mut RowCore,
+    campaign: CampaignId,
+    meter: MeterId,
+    datagram: &[u8],
+) -> Result<News, fw_head::OutOfMemory>
+    ensures heard { IfOk result (λ news. (told : RowNews) × RowHears row.old datagram.now told row.new × (news ≡ news_of campaign meter told)) }
+    ensures same { OnErr result (row.new ≡ row.old) }
+{
+    match row.hear(alloc, datagram) {
+        Ok(told) => Ok(news_of(campaign, meter, told)),
+        Err(error) => Err(error),
+    }
+}
+
 /// What a head end reports of a row's news.
 fn news_of(campaign: CampaignId, meter: MeterId, told: RowNews) -> News
     ensures { result ≡ news_of campaign meter told }
@@ -442,7 +464,7 @@ fn news_of(campaign: CampaignId, meter: MeterId, told: RowNews) -> News
         RowNews::Nothing => News::Nothing,
         RowNews::Moved => News::Moved,
         RowNews::Done(_) => News::Done(campaign, meter),
-        RowNews::Failed => News::Failed(campaign, meter),
+        RowNews::Failed(_) => News::Failed(campaign, meter),
     }
 }
 

@@ -139,7 +139,7 @@ gone_on : (number : ℕ) (before : Head) (meter : ℕ) (row : HeadRow) (heard : 
 gone_on number before meter row Nothing is = is
 gone_on number before meter row Moved is = is
 gone_on number before meter row (Done claim) is = marked_book number before.book row.name.campaign.serial meter states.Done is
-gone_on number before meter row Failed is = marked_book number before.book row.name.campaign.serial meter states.Failed is
+gone_on number before meter row (Failed why) is = marked_book number before.book row.name.campaign.serial meter states.Failed is
 
 heard : (number : ℕ) (before after : Head) (meter : ℕ) (bytes : List ℕ) (told : News) → HeadHears before meter bytes told after → IsOwnBook number before.book → IsOwnBook number after.book
 heard number before after meter bytes told (inl takes) is =

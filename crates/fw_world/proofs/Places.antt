@@ -101,7 +101,7 @@ went_keeps : (old : Head) (meter : ℕ) (row : Row) (heard : RowNews) → (went_
 went_keeps old meter row Nothing = refl
 went_keeps old meter row Moved = refl
 went_keeps old meter row (Done claim) = refl
-went_keeps old meter row Failed = refl
+went_keeps old meter row (Failed why) = refl
 
 pub hears_keeps : (old new : Head) (meter : ℕ) (datagram : List ℕ) (told : News) → HeadHears old meter datagram told new → new.book.head ≡ old.book.head
 hears_keeps old new meter datagram told (inl h) = ap (λ (x : Head). x.book.head) h.new_is ∙ went_keeps old meter h.next h.heard

@@ -19,6 +19,7 @@ use Rattle.fw_book.specs.Rows.{is_live, state_of}
 use Rattle.fw_book.specs.Contents.{Contents, Offered, offered_in, image_in, state_in, has_serial}
 use Rattle.fw_book.specs.Changes.{opened, marked, cancelled}
 use Rattle.fw_book.specs.Laws.{ImagesStay, OpeningOffers, StatesFollowCalls, AdmittedOpens}
+use Rattle.fw_book.specs.declared.notes.Reason.{Reason}
 use Rattle.fw_head.specs.declared.news.RowNews.{RowNews}
 use Rattle.fw_head.specs.declared.news.RowNews.TheVariants.{Nothing, Moved, Done, Failed}
 use Rattle.fw_head.specs.Row.{Row, MaySend}
@@ -349,9 +350,9 @@ module _ (stay : ImagesStay) (offers : OpeningOffers) (follow : StatesFollowCall
     pub at : row.name.campaign.head ≡ d.head
     pub name : next.name ≡ row.name
 
-  ended_as : (old : State) (d : Datagram) (before after : Head) (row next : Row) → head_at old d.head ≡ Some before → Goes old d before row next
-      → after ≡ went_on before d.meter next Failed → world_of (set_head old d.head after) ≡ world_of old
-  ended_as old d before after row next there goes is =
+  ended_as : (old : State) (d : Datagram) (before after : Head) (row next : Row) (why : Reason) → head_at old d.head ≡ Some before → Goes old d before row next
+      → after ≡ went_on before d.meter next (Failed why) → world_of (set_head old d.head after) ≡ world_of old
+  ended_as old d before after row next why there goes is =
       let campaign = row.name.campaign in
       let book : after.book ≡ marked before.book campaign.serial d.meter states.Failed = ap (λ (h : Head). h.book) is ∙ ap (λ (n : Name). marked before.book n.campaign.serial d.meter states.Failed) goes.name in
       heads_stay old d.head before after there
@@ -410,8 +411,8 @@ module _ (stay : ImagesStay) (offers : OpeningOffers) (follow : StatesFollowCall
       inl (ap world_of o.new_is ∙ rows_change old d.head o.before o.after o.there (ap (λ (h : Head). h.book) (takes.new_is ∙ ap (λ n. went_on o.before d.meter takes.next n) e)))
   took_as old new d is o takes Moved e =
       inl (ap world_of o.new_is ∙ rows_change old d.head o.before o.after o.there (ap (λ (h : Head). h.book) (takes.new_is ∙ ap (λ n. went_on o.before d.meter takes.next n) e)))
-  took_as old new d is o takes Failed e =
-      inl (ap world_of o.new_is ∙ ended_as old d o.before o.after takes.row takes.next o.there (goes old new d is o takes) (takes.new_is ∙ ap (λ n. went_on o.before d.meter takes.next n) e))
+  took_as old new d is o takes (Failed why) e =
+      inl (ap world_of o.new_is ∙ ended_as old d o.before o.after takes.row takes.next why o.there (goes old new d is o takes) (takes.new_is ∙ ap (λ n. went_on o.before d.meter takes.next n) e))
   took_as old new d is o takes (Done claim) e =
       let campaign = takes.row.name.campaign in
       let told = takes.told_is ∙ ap (λ n. news_of campaign d.meter n) e in

@@ -4,7 +4,7 @@
 use crate::book::{answer_text, head, meter};
 use crate::subject::Subject;
 use fw_blocks::Width;
-use fw_head::{HeadCore, News, Phase};
+use fw_head::{HeadCore, News, Phase, Told};
 use fw_wrapper::split;
 use std::alloc::Global;
 use std::test::Fail;
@@ -15,6 +15,7 @@ use test_tables::{Reads, Words, each_part, present};
 /// - `open SERIAL RELEASE IMAGE`, a campaign for meter 1: the spelling of the name that is returned
 /// - `tick`: the APDUs that it sends to meter 1
 /// - `hear APDU`, of meter 1: the news, and the phase of the row, if it is live
+/// - `why APDU`, the same: the news, and why the row is given up, if it is
 /// - `restart`
 /// - `cancel SERIAL`
 /// - `row`: the phase of the row of meter 1, if it is live, and how often it returned to `Start`
@@ -29,6 +30,10 @@ impl Reads for Subject<HeadCore> {
             "hear" => {
                 let news = head.hear(alloc, meter(1)?, &carried(alloc, words.rest())?)?;
                 heard_text(alloc, head, news)
+            }
+            "why" => {
+                let datagram = carried(alloc, words.rest())?;
+                why_text(alloc, head, &datagram)
             }
             "restart" => {
                 head.restart();
@@ -46,6 +51,18 @@ impl Reads for Subject<HeadCore> {
             _ => Err("a head end takes no such step".into()),
         }
     }
+}
+
+fn why_text(alloc: Global, head: &mut HeadCore, datagram: &[u8]) -> Result<String, Fail> {
+    let meter = meter(1)?;
+    match head.hear_why(alloc, meter, datagram) {
+        Ok(told) => told_text(alloc, &told),
+        Err(error) => Err(Fail::from(error)),
+    }
+}
+
+fn told_text(alloc: Global, told: &Told) -> Result<String, Fail> {
+    Ok(format!(in alloc; "{:?}, {:?}", told.news, told.reason)?)
 }
 
 /// A new head end with windows of this width takes the steps of these tables, and so does another one in each session.

@@ -1,13 +1,15 @@
 //! Kept head ends: what is kept, what a power cut leaves, and what is refused.
 
-use crate::book::{answer_text, bytes_of, head, image, meter, meters};
+use crate::book::{answer_text, bytes_of, campaign, head, image, meter, meters};
 use crate::head::{apdus_text, carried, width};
 use crate::readings::records_text;
 use crate::setting::new_head;
 use crate::subject::Subject;
+use fw_book::Notes;
 use fw_head::News;
 use fw_journal::{MemoryDevice, MemoryKeeper, MemoryReplacer};
-use fw_kept::KeptHead;
+use fw_kept::{KeptHead, read_kept};
+use fw_names::MeterId;
 use fw_wrapper::split;
 use std::alloc::Global;
 use std::test::Fail;
@@ -21,6 +23,8 @@ use test_tables::{Reads, Words, each_line, named, present};
 /// - `cancel SERIAL`, `commit` and `compact`
 /// - `take TEXT`: the bytes of this text that a commit returns, where they wait for it, and how many wait after it
 /// - `memory`: the book in memory
+/// - `known SERIAL METER`: when the campaign was opened, and how the row of the meter in it ended, as far as it is known in memory;
+///   `noted SERIAL METER`, as far as it is in what a power cut leaves
 /// - `left`: the book that a power cut leaves, and `read`, the one that is read
 /// - `begun METER`: the APDUs that the head end of this book sends to this meter at first
 /// - `records`: how many bytes there are up to the end of the records that a power cut leaves, and these
@@ -47,12 +51,19 @@ impl Reads for Subject<KeptHead<MemoryDevice>> {
                 read_text(alloc, head.device().disk().synced())?.as_str(),
             ),
             "read" => named_text(alloc, read_text(alloc, head.device().bytes())?.as_str()),
+            "known" => known_text(alloc, head.notes(), words),
+            "noted" => noted_text(alloc, head.device().disk().synced(), words),
             "begun" => begun_text(alloc, head.device().disk().synced(), words.number()?),
             "records" => records_text(alloc, head.device().disk().synced()),
             _ => Err("no call of a kept head end has this name".into()),
         }
     }
 }
+
+/// When campaigns are opened, and when datagrams are heard.
+const OPENED_AT: u64 = 1000;
+
+const HEARD_AT: u64 = 2000;
 
 fn opened_text(
     alloc: Global,
@@ -66,7 +77,7 @@ fn opened_text(
     let meters = meters(alloc, words.rest())?;
     answer_text(
         alloc,
-        &head.open_campaign(alloc, serial, release, image(word), &meters),
+        &head.open_campaign(alloc, serial, release, image(word), &meters, OPENED_AT),
     )
 }
 
@@ -95,9 +106,22 @@ fn heard_text(
     for word in words.rest().split(' ') {
         let answer = present(named(ANSWERS, word), "no answer has this name")?;
         let asked = head.tick(alloc, meter)?;
-        news = head.hear(alloc, meter, &answer_to(alloc, &asked, answer)?)?;
+        let datagram = answer_to(alloc, &asked, answer)?;
+        news = news_of(alloc, head, meter, &datagram)?;
     }
     Ok(format!(in alloc; "{news:?}")?)
+}
+
+fn news_of(
+    alloc: Global,
+    head: &mut KeptHead<MemoryDevice>,
+    meter: MeterId,
+    datagram: &[u8],
+) -> Result<News, Fail> {
+    match head.hear(alloc, meter, datagram, HEARD_AT) {
+        Ok(told) => Ok(told.news),
+        Err(error) => Err(Fail::from(error)),
+    }
 }
 
 /// The datagram of an answer to the first of these asks, or to one that wasn't made, if there is none.
@@ -148,6 +172,23 @@ fn begun_text(alloc: Global, bytes: &[u8], number: u32) -> Result<String, Fail> 
     }
 }
 
+/// What is known of a campaign and of a row of it.
+fn known_text(alloc: Global, notes: &Notes, mut words: Words<'_>) -> Result<String, Fail> {
+    let (serial, number): (u32, u32) = words.read()?;
+    let campaign = campaign(7, serial)?;
+    let opened = notes.opened_at(campaign);
+    let ended = notes.end_of(campaign, meter(number)?);
+    Ok(format!(in alloc; "{opened:?} {ended:?}")?)
+}
+
+/// The same of the book that these bytes hold.
+fn noted_text(alloc: Global, bytes: &[u8], words: Words<'_>) -> Result<String, Fail> {
+    match read_kept(alloc, bytes) {
+        Ok((_, notes, _)) => known_text(alloc, &notes, words),
+        Err(refusal) => Ok(refusal.to_string(alloc)?),
+    }
+}
+
 /// The bytes of books:
 ///
 /// - with campaign 1, of release 5 and image `abc`, for meters 1 to 3
@@ -184,12 +225,15 @@ const KEPT: &str = "
     hear 2 none        => Nothing
     open 1 5 abc 1 2 3 => done
     left               => one
+    noted 1 2          => Some(1000) None
     begun 1            => c001c0001200002c0000ff0200
     open 1 5 abc 4     => SerialUsed
     open 2 5 - 4       => EmptyImage
     open 2 5 abd 4 1   => MeterBusy
     hear 2 none        => Failed(CampaignId { head: 7, serial: 1 }, MeterId { number: 2 })
     memory             => failed
+    known 1 2          => Some(1000) Some(End { at: 2000, reason: Some(Reason { phase: Size, answer: Number(0) }) })
+    noted 1 2          => Some(1000) None
     left               => one
     begun 2            => c001c0001200002c0000ff0200
     commit             => done
@@ -203,10 +247,12 @@ const KEPT: &str = "
     begun 1            => c001c0001200002c0000ff0200
     take abc           => ([97, 98, 99], 0)
     left               => marked
+    noted 1 1          => Some(1000) Some(End { at: 2000, reason: None })
+    noted 1 3          => Some(1000) None
     begun 1            =>
     open 2 0 abc 4     => done
     left               => two
-    records            => 235 010000000700000001000000050100000003616263000000010000000200000003 0200000007000000010000000202 0200000007000000010000000101 01000000070000000200000000020000000100000004
+    records            => 469 010000000700000001000000050100000003616263000000010000000200000003 0500000007000000010100000000000003e8 0200000007000000010000000202 050000000700000001020000000200000000000007d0010100000000 0200000007000000010000000101 050000000700000001020000000100000000000007d0 01000000070000000200000000020000000100000004 0500000007000000020100000000000003e8
     hear 4 four enabled done done whole done second done runs => Moved
     memory             => two
     cancel 1           => done
@@ -221,7 +267,9 @@ const KEPT: &str = "
     left               => ended
     begun 4            =>
     memory             => ended
-    records            => 335 010000000700000001000000050100000003616263000000010000000200000003 040000000700000001010200 030000000700000001 01000000070000000200000000020000000100000004 04000000070000000202 0100000007000000030000000001000000017800000003
+    records            => 686 010000000700000001000000050100000003616263000000010000000200000003 040000000700000001010200 030000000700000001 0500000007000000010100000000000003e8 050000000700000001020000000100000000000007d0 050000000700000001020000000200000000000007d0010100000000 01000000070000000200000000020000000100000004 04000000070000000202 0500000007000000020100000000000003e8 050000000700000002020000000400000000000007d00307fa 0100000007000000030000000001000000017800000003 0500000007000000030100000000000003e8
+    noted 2 4          => Some(1000) Some(End { at: 2000, reason: Some(Reason { phase: Start, answer: Code(250) }) })
+    noted 4 4          => None None
     hear 3 none        => Failed(CampaignId { head: 7, serial: 3 }, MeterId { number: 3 })
     commit             => done
     compact            => done

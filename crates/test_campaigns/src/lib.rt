@@ -26,6 +26,8 @@ mod kept;
 #[cfg(test)]
 mod key_files;
 #[cfg(test)]
+mod notes;
+#[cfg(test)]
 mod openings;
 #[cfg(test)]
 mod outstanding;

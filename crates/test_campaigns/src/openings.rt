@@ -34,7 +34,7 @@ pub(crate) fn named_text(
     Ok(format!(in alloc; "{answered}, {name}")?)
 }
 
-/// Each refusal by itself, and before all that come after it.
+/// Each of an opening's refusals by itself, and before all that come after it.
 pub(crate) const REFUSED: &str = "
     last open 8 1 0 abc 1                                                     => ForeignHead
     last open 7 1 0 abc 1; open 8 1 0 -                                       => ForeignHead

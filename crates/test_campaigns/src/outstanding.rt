@@ -87,7 +87,7 @@ const THIRTEEN: &str = "
     ask verify => 000100010001000fc301cf001200002c0000ff03010f00
 ";
 
-/// A seventeenth ask has none, until the sixteen are dropped. The same of sixteen other asks.
+/// A seventeenth ask has none, until the sixteen are dropped: no reuse of an invoke-id. The same of sixteen other asks.
 const SEVENTEENTH: &str = "
     ask status      => AllBusy
     ask status      => AllBusy

@@ -71,16 +71,19 @@ pub(crate) fn records_text(alloc: Global, bytes: &[u8]) -> Result<String, Fail> 
 fn made_text(alloc: Global, bytes: &[u8]) -> Result<String, Fail> {
     let (records, _end) = read_book(alloc, bytes)?;
     match read_records(alloc, head(7)?, &records) {
-        Ok(book) => bytes_of(alloc, &book),
+        Ok((book, _)) => bytes_of(alloc, &book),
         Err(refusal) => Ok(refusal.to_string(alloc)?),
     }
 }
 
 fn held_text(alloc: Global, bytes: &[u8]) -> Result<String, Fail> {
-    match read_kept(alloc, bytes) {
-        Ok((Some(book), _)) => bytes_of(alloc, &book),
-        Ok((None, records)) => Ok(format!(in alloc; "none {records}")?),
-        Err(refusal) => Ok(refusal.to_string(alloc)?),
+    let (book, _notes, records) = match read_kept(alloc, bytes) {
+        Ok(held) => held,
+        Err(refusal) => return Ok(refusal.to_string(alloc)?),
+    };
+    match book {
+        Some(book) => bytes_of(alloc, &book),
+        None => Ok(format!(in alloc; "none {records}")?),
     }
 }
 
@@ -130,7 +133,9 @@ const OPENED: &str = "
     open bytes 46574a32 => BadBook 0
 ";
 
-/// An opening with an image and two meters, one with the image of an earlier campaign, both marks, a cancelling and endings.
+/// An opening with an image and two meters, one with the image of an earlier campaign, both marks, a cancelling and endings. Notes of an
+/// opening, of a row that ended for no reason that is told, and for each kind of answer: a number, the bits of blocks, a status, no image, one
+/// of campaign (7, 3), an image of the factory that runs, one of campaign (8, 1), and codes.
 const GOOD: &str = "
     record bytes 0100000007000000030000000501000000036162630000000100000102 => 0100000007000000030000000501000000036162630000000100000102
     record bytes 010000000700000004000000000200000003ffffffff => 010000000700000004000000000200000003ffffffff
@@ -138,10 +143,23 @@ const GOOD: &str = "
     record bytes 0200000007000000030000010202 => 0200000007000000030000010202
     record bytes 030000000700000003 => 030000000700000003
     record bytes 040000000700000003010002 => 040000000700000003010002
+    record bytes 0500000007000000030100000000000003e8 => 0500000007000000030100000000000003e8
+    record bytes 050000000700000003020000010200000000000007d0 => 050000000700000003020000010200000000000007d0
+    record bytes 050000000700000003020000010200000000000007d0010100000400 => 050000000700000003020000010200000000000007d0010100000400
+    record bytes 050000000700000003020000010200000000000007d006020000000000000011 => 050000000700000003020000010200000000000007d006020000000000000011
+    record bytes 050000000700000003020000010200000000000007d0080304 => 050000000700000003020000010200000000000007d0080304
+    record bytes 050000000700000003020000010200000000000007d00904 => 050000000700000003020000010200000000000007d00904
+    record bytes 050000000700000003020000010200000000000007d009050000000700000003 => 050000000700000003020000010200000000000007d009050000000700000003
+    record bytes 050000000700000003020000010200000000000007d00b060000000000000000 => 050000000700000003020000010200000000000007d00b060000000000000000
+    record bytes 050000000700000003020000010200000000000007d00b060000000800000001 => 050000000700000003020000010200000000000007d00b060000000800000001
+    record bytes 050000000700000003020000010200000000000007d00307fa => 050000000700000003020000010200000000000007d00307fa
+    record bytes 050000000700000003020000010200000000000007d00c0700 => 050000000700000003020000010200000000000007d00c0700
+    record bytes 050000000700000003020000010200000000000007d00d0700 => 050000000700000003020000010200000000000007d00d0700
 ";
 
 /// Another kind, head end 0, serial number 0, another source, an image that is cut short, half a meter, another ending, a byte too few, and
-/// one too many. Endings of no row, of rows of which none ended, and of one that ended otherwise.
+/// one too many. Endings of no row, of rows of which none ended, and of one that ended otherwise. Notes of nothing, of another kind, of a time
+/// that is cut short, of a phase 0 and 14, of another kind of answer, of a campaign with one number 0, and with a byte too many.
 const BAD: &str = "
     record bytes                                          => BadRecord
     record bytes 050000000700000003                       => BadRecord
@@ -157,6 +175,20 @@ const BAD: &str = "
     record bytes 040000000700000003                       => BadRecord
     record bytes 0400000007000000030000                   => BadRecord
     record bytes 0400000007000000030103                   => BadRecord
+    record bytes 060000000700000003                       => BadRecord
+    record bytes 0500000007000000030300000000000003e8 => BadRecord
+    record bytes 05000000070000000301000000000003e8 => BadRecord
+    record bytes 0500000007000000030100000000000003e800 => BadRecord
+    record bytes 050000000700000003020000010200000000000007d0000700 => BadRecord
+    record bytes 050000000700000003020000010200000000000007d00e0700 => BadRecord
+    record bytes 050000000700000003020000010200000000000007d0010800 => BadRecord
+    record bytes 050000000700000003020000010200000000000007d00100 => BadRecord
+    record bytes 050000000700000003020000010200000000000007d009050000000000000003 => BadRecord
+    record bytes 050000000700000003020000010200000000000007d00b060000000700000000 => BadRecord
+    record bytes 050000000700000003020000010200000000000007d001 => BadRecord
+    record bytes 050000000700000003020000010200000000000007d0030700ff => BadRecord
+    record bytes 050000000700000003020000010200000000000007d00904ff => BadRecord
+    record bytes 050000000700000003020000010200000000000007d00101000004 => BadRecord
 ";
 
 /// The opening of campaign 1 with the image `abc` and release 5, for meters 1 to 3, and that of campaign 2 with the same image, for meter 4.
@@ -183,6 +215,14 @@ const MADE: &str = "
     make journal first 0200000007000000010000000401 => BadRecord 1
     make journal first second 0300000007000000 => BadRecord 2
     make journal 0200000008000000010000000101 => BadRecord 0
+    make journal first 0500000007000000010100000000000003e8 0200000007000000010000000202 050000000700000001020000000200000000000007d0010100000000 => 46574232000000070000000100000005000000036162630003000000010000000002020000000300
+    make journal first 0200000007000000010000000202 050000000700000001020000000200000000000007d0 => 46574232000000070000000100000005000000036162630003000000010000000002020000000300
+    make journal 0500000007000000010100000000000003e8 first => BadRecord 0
+    make journal first 050000000700000001020000000200000000000007d0010100000000 => BadRecord 1
+    make journal first 050000000700000001020000000900000000000007d0 => BadRecord 1
+    make journal first 0200000007000000010000000101 050000000700000001020000000100000000000007d0010100000000 => BadRecord 2
+    make journal first 030000000700000001 050000000700000001020000000200000000000007d0010100000000 => BadRecord 2
+    make journal first 0500000008000000010100000000000003e8 => BadRecord 1
 ";
 
 #[test]

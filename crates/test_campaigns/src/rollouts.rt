@@ -31,7 +31,7 @@ const FAILS: &str = "
     comes 2000 2 c401c0000600000000 => Ended
     save-due 101999                 => false
     save-due 102000                 => true
-    saved                           => 2 Failed;
+    saved                           => 2 Failed End { at: 2, reason: Some(Reason { phase: Size, answer: Number(0) }) };
     save-due 300000                 => false
     over                            => false
 ";
@@ -67,14 +67,14 @@ const RUNS: &str = "
 const IS_OVER: &str = "
     over            => false
     save-due 112000 => true
-    saved           => 1 Done;
+    saved           => 1 Done End { at: 112, reason: None };
     over            => true
     due 60000000    =>
     counts          => Counts { live: 0, done: 1, failed: 1, sent: 11, received: 12, resends: 0, strangers: 1 }
 ";
 
-/// No meter answers. Each is asked again after 0.2 s, and then after a quarter more each time. An answer to what was asked before comes too
-/// late.
+/// The retry wait. No meter answers: each is asked again after 0.2 s, and then after a quarter more each time. An answer to what was asked
+/// before comes too late.
 const SILENCES: &str = "
     due 0                             => (1, 1) c001c0001200002c0000ff0200
     due 0                             => (2, 2) c001c0001200002c0000ff0200
@@ -183,6 +183,10 @@ impl HeadPort for Quiet {
         0
     }
 
+    fn date(&self) -> u64 {
+        0
+    }
+
     fn tell(&mut self, _ended: Ended) {}
 }
 
@@ -199,7 +203,8 @@ fn a_round_asks_each_meter(rt: HostRuntime) -> Result<(), Fail> {
 /// goes to or comes from, and the rows that are reported.
 const DEEDS: &str =
     "to 1, to 2, quiet, from 9, from 2, from 2, from 1, to 1, from 1, to 1, from 1, to 1, to 1, from 1, from 1, to 1, \
-     from 1, to 1, from 1, to 1, from 1, to 1, from 1, to 1, from 1, 2 Failed;1 Done;None";
+     from 1, to 1, from 1, to 1, from 1, to 1, from 1, to 1, from 1, \
+     2 Failed End { at: 0, reason: Some(Reason { phase: Size, answer: Number(0) }) };1 Done End { at: 0, reason: None };None";
 
 /// Nothing in time, and then what comes in `FAILS`, `TAKES` and `RUNS`.
 fn all_coming(alloc: Global) -> Result<Vec<Option<Datagram>>, Fail> {

@@ -23,8 +23,8 @@ impl Reads for Subject<RowCore> {
         match words.word()? {
             "tick" => apdus_text(alloc, &row.tick(alloc, b"abc", width()?)?),
             "hear" => {
-                let news = row.hear(alloc, &carried(alloc, words.rest())?)?;
-                row_text(alloc, &news, row)
+                let datagram = carried(alloc, words.rest())?;
+                heard_text(alloc, row, &datagram)
             }
             "restart" => {
                 row.restart();
@@ -32,6 +32,13 @@ impl Reads for Subject<RowCore> {
             }
             _ => Err("a row takes no such step".into()),
         }
+    }
+}
+
+fn heard_text(alloc: Global, row: &mut RowCore, datagram: &[u8]) -> Result<String, Fail> {
+    match row.hear(alloc, datagram) {
+        Ok(news) => row_text(alloc, &news, row),
+        Err(error) => Err(Fail::from(error)),
     }
 }
 
@@ -113,13 +120,13 @@ const TO_DONE: &str = "
 /// A block size of which the image would have no blocks.
 const NO_SIZE: &str = "
     tick                    => c001c0001200002c0000ff0200
-    hear c401c0000600000000 => (Failed, Failed, 0)
+    hear c401c0000600000000 => (Failed(Reason { phase: Size, answer: Number(0) }), Failed, 0)
     tick                    =>
 ";
 
 /// A meter that can't be enabled.
 const NOT_ENABLED: &str = "
-    hear c501c103 => (Failed, Failed, 0)
+    hear c501c103 => (Failed(Reason { phase: Enable, answer: Code(3) }), Failed, 0)
     tick          =>
 ";
 
@@ -163,7 +170,7 @@ const TO_START: &str = "
 
 /// The meter runs a higher release.
 const TOO_LOW: &str = "
-    hear c701c2fa00 => (Failed, Failed, 0)
+    hear c701c2fa00 => (Failed(Reason { phase: Start, answer: Code(250) }), Failed, 0)
 ";
 
 /// From there up to the ask which image is verified.

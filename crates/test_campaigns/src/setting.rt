@@ -23,7 +23,7 @@ use test_tables::{Kept, Reads, Words};
 /// What is done with a daemon, or asked of it. Times are in microseconds:
 ///
 /// - `due TIME`: what is sent at this time: the meter, the number of its address, and the APDUs
-/// - `comes TIME ADDRESS APDU`, from the address of this number: what comes of it
+/// - `comes TIME ADDRESS APDU`, from the address of this number: what comes of it. The date has a second for each millisecond of the time
 /// - `save-due TIME`: whether the rows that ended are to be put on the device at this time
 /// - `saved`, which puts them there: which they are
 /// - `over`: whether all is over
@@ -66,7 +66,7 @@ fn heard_text(
 ) -> Result<String, Fail> {
     let now = u64::from(words.number()?);
     let Datagram { address, bytes } = coming(alloc, words)?;
-    let heard = daemon.heard(now, address, &bytes)?;
+    let heard = daemon.heard(now, now / 1000, address, &bytes)?;
     Ok(format!(in alloc; "{heard:?}")?)
 }
 
@@ -79,10 +79,10 @@ fn saved_text(alloc: Global, daemon: &mut HeadDaemon<MemoryDevice>) -> Result<St
     Ok(text)
 }
 
-/// Appends a row that ended, with a semicolon after it.
+/// Appends a row that ended, with when and why, and with a semicolon after it.
 pub(crate) fn push_ended(text: &mut String, ended: &Ended) -> Result<(), Fail> {
     let (meter, ending) = (ended.meter.number(), ended.ending);
-    write!(text, "{meter} {ending:?};")?;
+    write!(text, "{meter} {ending:?} {:?};", ended.end)?;
     Ok(())
 }
 
@@ -139,7 +139,7 @@ fn leading_head(alloc: Global) -> Result<KeptHead<MemoryDevice>, Fail>
 {
     let meters = [meter(1)?, meter(2)?];
     let mut head = new_head(alloc)?;
-    head.open_campaign(alloc, 1, 0, b"abc", &meters)?;
+    head.open_campaign(alloc, 1, 0, b"abc", &meters, 0)?;
     Ok(head)
 }
 

@@ -105,7 +105,8 @@ const TOO_LOW: &str = "
     tick                    => c101c1001200002c0000ff05000301
     hear c501c100           => Moved, Some(Start)
     tick                    => c301c2001200002c0000ff01010202092d02000000070000000100000005ba7816bf8f01cfea414140de5dae2223b00361a396177a9cb410ff61f20015ad0600000003
-    hear c701c2fa00         => Failed(CampaignId { head: 7, serial: 1 }, MeterId { number: 1 }), None
+    why c701c2fa00          => Failed(CampaignId { head: 7, serial: 1 }, MeterId { number: 1 }), Some(Reason { phase: Start, answer: Code(250) })
+    row                     => None
     tick                    =>
 ";
 

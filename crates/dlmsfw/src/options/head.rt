@@ -49,13 +49,13 @@ With --keys KEYS all that is sent is sealed, and what is taken was sealed by the
 for, as `meter --help` says it. A line of KEYS is that of a link with a meter: its number, its system title
 in 16 hexadecimal digits, and the encryption key and the authentication key in 32 each, as
 `1,4b5a424d00000001,KEY,AUTHENTICATION`. Each meter of LIST has one. The head end's own system title has
-its number: 4b5a4248 and 8 digits more, as 4b5a424800000007 of head end 7. FILE.counter keeps which numbers
-of what is sent are used, and --new-counter makes it: for keys that were never used, also if FILE is new.
-What is cut off FILE.counter, as it is off FILE, is kept in FILE.counter.dropped, and costs nothing.
-With --strict one block goes to a meter at a time, whatever --width is.
+its number: 4b5a4248 and 8 digits more, as 4b5a424800000007 of head end 7. KEYS.counter keeps which numbers
+of what is sent are used, and --new-counter makes it: for keys that were never used, and not for each new
+FILE. One process at a time has it, so no two head ends seal with one KEYS. With --strict one block goes to a
+meter at a time, whatever --width is.
 
-A file is made once all is judged: LIST, the image, KEYS, the address, FILE.counter, and what is cancelled
-and opened. CAPTURE comes first then, a new FILE.counter next, and a new FILE last. Of a FILE that is
+A file is made once all is judged: LIST, the image, KEYS, the address, KEYS.counter, and what is cancelled
+and opened. CAPTURE comes first then, a new KEYS.counter next, and a new FILE last. Of a FILE that is
 there --open is judged once --cancel is done.
 
 A row is asked when nothing of it is outstanding, or after four times its last round trip, which is
@@ -73,7 +73,10 @@ the first:
   opened HEAD SERIAL RELEASE DIGEST      this campaign was opened, and the disk has it: its release, and
                                          the SHA-256 of its image in lower-case hexadecimal
   row HEAD SERIAL METER done             the meter claimed to run the image, and the disk has that
-  row HEAD SERIAL METER failed           the row was given up, and the disk has that
+  row HEAD SERIAL METER failed: PHASE ANSWER
+                                         the row was given up, and the disk has that: the phase that it
+                                         was in, and what its meter answered, as `start code 250
+                                         other-reason` or `poll status 4 verification-failed`
   over done D failed F                   no row is live; in this run D rows were done, and F failed
 
 Of each campaign that has live rows from an earlier run standard error says at the start
@@ -98,7 +101,7 @@ Exit status:
   0  no row is live, and in this run none failed
   1  a fault: standard error has `dlmsfw: NAME`, with one of these names, and a second line with the
      option that it is about. If the cause is known, it goes on with `: ` and the cause, and before it
-     the name of the file that is meant, if that is the one beside FILE or CAPTURE, or FILE.counter:
+     the name of the file that is meant, if that is the one beside FILE or CAPTURE, or KEYS.counter:
      `--book FILE: FILE.new: it is another program's file`
        ListFault       LIST can't be opened or read: it isn't there, it is a folder, or this user has no
                        right to it. Or it has more than 64 MiB, without a cause
@@ -106,18 +109,19 @@ Exit status:
                        or an address that an earlier line has, or an address that can't be asked, or a
                        name that has none which can
        ImageFault      the file of --image can't be opened or read, for the same causes
-       KeysFault       KEYS can't be opened or read: it isn't there, it is a folder, or this user has no
-                       right to it
+       KeysFault       KEYS can't be opened or read: it isn't there, it is a folder or a link or has a
+                       second name, or this user has no right to it
        KeysReadable    others than its owner have a right to KEYS: `chmod 600 KEYS` takes it away
        BadKeys L CAUSE line L of KEYS, counted from 1, is none of it; `meter --help` has the causes
        NoKey N         meter N is in LIST, and has no line in KEYS
-       NoCounter       FILE.counter isn't there, and --new-counter isn't given. Where it is lost, all ends
-                       need new keys; where FILE was renamed, it is renamed too
-       CounterExists   FILE.counter is there, and --new-counter is given: the head end goes on without that
-                       option. FILE.counter isn't removed while its keys are used
-       CounterLocked   another process has FILE.counter
-       CounterFault    FILE.counter can't be made, opened or read, or holds no numbers: its bytes were
-                       changed. Or it can't be written later, without a cause
+       NoCounter       KEYS.counter isn't there, and --new-counter isn't given. Where it is lost, all ends
+                       need new keys; where KEYS was renamed, it is renamed too
+       CounterExists   KEYS.counter is there, and --new-counter is given: the head end goes on without that
+                       option. KEYS.counter isn't removed while its keys are used
+       CounterLocked   another process has KEYS.counter: no two seal with one KEYS
+       CounterFault    KEYS.counter can't be made, opened or read, as where this user may not write beside
+                       KEYS, or holds no numbers: its bytes were changed. Or it can't be written later,
+                       without a cause
        CounterSpent    all 4294967295 numbers are used: the head end and its meters need new keys
        BadSetup        the campaigns need serial numbers above 4294967295
        Socket          datagrams can't be received at --listen: it is in use, this machine has no such

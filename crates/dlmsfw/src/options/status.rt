@@ -21,7 +21,10 @@ Tells how far the rows of a head end's book are, also while the head end has it.
 
 Standard output gets the rows by campaigns, in the order in which they were opened, and then by meters
 in the order given: as a table, with how many rows are in which state, as comma-separated values with a
-header line, or as an object of JSON on one line.
+header line, or as an object of JSON on one line. A failed row has the phase that it was in, and what its
+meter answered, as `head --help` says it. The last two have the times, in seconds since 1970 began (UTC),
+at which the campaign was opened and at which the row ended. What the book doesn't know, as one of an
+older release, is empty there, or null.
 
 FILE may have whole records that are not in the book, behind a shut gate: of a commit that isn't done or
 was cut, or behind a byte that turned on the disk. Standard error says so then:

@@ -1,10 +1,18 @@
 use Rattle.std.proofs.Common.{rules, ◌≡◌}
 use Rattle.fw_ledger.specs.Replay.{records_of}
 use Rattle.fw_kept.proofs.Readings.{none_of, first_of, some_records, books_read, reading_refused, not_foreign, bad_first}
+use Rattle.std.proofs.Common.{List, [], ℕ, sym, subst}
+use Rattle.fw_book.specs.Notes.{Known, nothing_known}
+use Rattle.fw_ledger.specs.Noted.{AreNotesOf}
 use Rattle.fw_kept.proofs.reading.book_in.Goals as goal
 
 pub returns-in_default-clause-found : goal.returns-in_default-clause-found
 returns-in_default-clause-found c = none_of c.args.records.now c.in_default.ensures.cases
+
+pub returns-in_default-clause-noted : goal.returns-in_default-clause-noted
+returns-in_default-clause-noted c =
+    let none = none_of c.args.records.now c.in_default.ensures.cases in
+    subst (λ (k : Known). AreNotesOf (records_of c.args.records.now) k) (sym c.none.ensures) (subst (λ (l : List (List ℕ)). AreNotesOf l nothing_known) (sym none) (c.nothing_noted.ensures [] [] tt tt))
 
 pub returns-in-Ok-book_of-clause-found : goal.returns-in-Ok-book_of-clause-found
 returns-in-Ok-book_of-clause-found c =

@@ -5,7 +5,8 @@ use Rattle.fw_ledger.specs.Replay.{records_of}
 use Rattle.fw_kept.specs.Private.{AreReadAs, IsReadingRefusal}
 use Rattle.fw_kept.specs.declared.error.OpenError.{OpenError}
 use Rattle.fw_kept.proofs.Books.{bad_of}
-use Rattle.fw_kept.proofs.Readings.{read_as, records_bad, records_memory, records_offset, records_plain, open_is, memory_of, no_record_of, plain_open, IsPlain}
+use Rattle.fw_ledger.specs.Noted.{AreNotesOf}
+use Rattle.fw_kept.proofs.Readings.{read_as, notes_read, records_bad, records_memory, records_offset, records_plain, open_is, memory_of, no_record_of, plain_open, IsPlain}
 use Rattle.fw_kept.proofs.reading.read_kept.Goals as goal
 
 pub returns-in-Ok-book_in-clause-found : goal.returns-in-Ok-book_in-clause-found
@@ -13,6 +14,12 @@ returns-in-Ok-book_in-clause-found c =
     let vs = c.in-Ok.records.items in
     let here : c.deref.result.now ≡ vs = search rules in
     read_as c.one_reading.ensures c.args.bytes.now vs c.in-Ok-book_in.book c.in-Ok.ensures.records (subst (λ (l : List (Vec ℕ Global)). AreReadAs (records_of l) c.in-Ok-book_in.book) here c.in-Ok-book_in.ensures.found)
+
+pub returns-in-Ok-book_in-clause-noted : goal.returns-in-Ok-book_in-clause-noted
+returns-in-Ok-book_in-clause-noted c =
+    let vs = c.in-Ok.records.items in
+    let here : c.deref.result.now ≡ vs = search rules in
+    notes_read c.args.bytes.now vs c.in-Ok-book_in.notes c.in-Ok.ensures.records (subst (λ (l : List (Vec ℕ Global)). AreNotesOf (records_of l) c.in-Ok-book_in.notes) here c.in-Ok-book_in.ensures.noted)
 
 pub returns-in-Ok-clause-bad : goal.returns-in-Ok-clause-bad
 returns-in-Ok-clause-bad c = λ offset is. absurd (records_offset (records_of c.deref.result.now) (Err c.in-Err-book_in.refusal) offset c.in-Err-book_in.ensures.refused is)

@@ -4,6 +4,9 @@ use Rattle.fw_book.specs.Changes.{empty_book}
 use Rattle.fw_book.specs.declared.error.BookError.{BookError}
 use Rattle.fw_ledger.specs.Replay.{IsBookOf, FailsAt, records_of}
 use Rattle.fw_ledger.proofs.Books.{all_push, book_unique, failed_none, first_of, none_of, wants_memory}
+use Rattle.fw_ledger.proofs.Known.{exactly_more, exactly_notes}
+use Rattle.fw_book.specs.Notes.{Known}
+use Rattle.fw_ledger.specs.Noted.{AreNotesOf}
 use Rattle.fw_ledger.proofs.replay.read_records.Goals as goal
 
 pub loop-bytes-preserved : goal.loop-bytes-preserved
@@ -18,6 +21,7 @@ loop-bytes-preserved c =
       split = i.split ∙ ap (λ (l : List (List ℕ)). i.front ++ l) next ∙ sym (append_assoc i.front (bytes ∷ []) others);
       count = omega (arith, i.count, c.in-Some.ensures.cases.1, length-append i.front (bytes ∷ []));
       is_book = all_push i.front bytes (empty_book c.args.head) c.loop-bytes.book c.add.new.book i.is_book c.in-Ok.ensures.made;
+      are_notes = (let noted = c.in-Ok.ensures.noted in exactly_more i.front bytes noted.0 c.loop-bytes.notes c.add.new.notes i.are_notes noted.1 noted.2);
     }
 
 pub returns-in-Err-clause-unique : goal.returns-in-Err-clause-unique
@@ -79,7 +83,7 @@ returns-in-Err-clause-memory c = λ is.
       bytes = bytes;
       rest = records_of c.in-Some.others.now;
       split = i.split ∙ ap (λ (l : List (List ℕ)). i.front ++ l) next;
-      begins = c.in-Err.ensures.memory (ap (λ (e : BookError). Err e) (wants_memory c.in-Err.refusal c.replay_error.result _ c.replay_error.ensures is));
+      takes = c.in-Err.ensures.memory (ap (λ (e : BookError). Err e) (wants_memory c.in-Err.refusal c.replay_error.result _ c.replay_error.ensures is));
       book = c.loop-bytes.book;
       is_book = i.is_book;
     }

@@ -1,7 +1,17 @@
-use Rattle.std.proofs.Common.{◌≡◌, ◌<◌, length, ap, ◌∙◌, arith}
+use mir.Syntax.{named}
+use denote.Exit.{no}
+use denote.Param.{param}
+use denote.Struct.Field.{u32-field}
+use denote.Param.Send as send
+use Rattle.std.proofs.Common.{rules, ◌≡◌, ◌<◌, length, ap, ◌∙◌, arith}
+use Rattle.std.specs.Prelude.{codes}
 use Rattle.std.proofs.lemmas.Bool.Decides.{nat_tests}
 use Rattle.std.proofs.lemmas.List.Elements.{All-push}
+use Rattle.std.proofs.alloc.Global.TheSendSync as heap
+use Rattle.fw_workers.proofs.Crossing.{seven_send, world_sync}
 use Rattle.fw_workers.proofs.Joining.{all_kept, all_started, rest_are, started_next}
+use Rattle.fw_workers.proofs.seating.Job.TheSendSync as job
+use Rattle.fw_workers.proofs.start.Start.TheSendSync as start
 use Rattle.fw_workers.proofs.threads.fn.spawned.scope.Goals as goal
 
 pub starts-preserved : goal.starts-preserved
@@ -36,3 +46,13 @@ returns-in-Ok-join_promised g c =
       ends = all_started _ (λ job. job.share) _ _ c.starts.rest.items _ none c.starts.invariant.shares kept;
       cause = tt;
     }
+
+pub spawn_with-requires-send-F : goal.spawn_with-requires-send-F
+spawn_with-requires-send-F g c κs within =
+    let lent : send.IsSync (param 0 g.row.R) = search (rules, c.requires) parts 8 in
+    let gate : send.IsSync (param 1 g.row.G) = search (rules, c.requires) parts 8 in
+    let share : send.IsSend (param 2 g.row.H) = search (rules, c.requires) parts 8 in
+    let number : send.IsSend u32-field.row = search send.sendable in
+    send.param_send 2 _ (send.arg_send _ no _ (seven_send (codes "fw_workers::threads::fn::spawned::fn::scope::work+Self") _ _ _ _ _ _ _
+    (send.shr_send (named 7) _ _ lent) heap.the_send (send.shr_send (named 8) _ _ world_sync) (send.shr_send (named 9) _ _ start.the_sync)
+    (send.shr_send (named 10) _ _ gate) number (job.the_send _ share)))
