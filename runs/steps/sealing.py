@@ -2,9 +2,11 @@
 
 import hashlib
 import os
+import socket
+import time
 
-from common import HOST, SILENCE, Head, Meter, bound, listed, name_of, received, stays_silent, wait_for, wants
-from ends import GET_STATUS, STATUS, HeadEnd, status_of
+from common import HOST, PATIENCE, SILENCE, Head, Meter, Skipped, bound, listed, name_of, received, stays_silent, wait_for, wants
+from ends import GET_STATUS, STATUS, HeadEnd, fields_of
 from suite0 import opened, parts_of, sealed
 
 # The titles of head end 7 and of the meter, and the two keys of their link.
@@ -58,7 +60,7 @@ def starts(folder, head, *words):
 
 def rows(folder):
     """The rows of the book, by their campaigns."""
-    return [line.split(",")[1::2] for line in status_of(folder, "csv").splitlines()[1:]]
+    return [[campaign, state] for _, campaign, _, state, *_ in fields_of(folder)]
 
 
 def brings(folder, head, serial, image, *words):
@@ -113,7 +115,7 @@ def others_bring_nothing(place):
 # file that has a record more after each start.
 def counters_go_on(place):
     """A meter that is killed and started again goes on above all counters that it used, and the file of its counter doesn't grow by that."""
-    file, keys, seen = place.folder / "meter.fw.counter", tuple(map(bytes.fromhex, KEYS)), []
+    file, keys, seen = place.folder / "meter.keys.counter", tuple(map(bytes.fromhex, KEYS)), []
     with bound() as head:
         for start in range(6):
             words = ["--keys", meter_keys(place.folder, head.getsockname()), *(["--new-counter"] if start == 0 else [])]
@@ -209,31 +211,123 @@ def keys_and_counters_are_refused(place):
         own.chmod(0o644)
         refused(place, "KeysReadable", f"--keys {own}", *words, own, "--new-counter")
         own.chmod(0o600)
-    refused(place, "NoCounter", f"--store {store}: {store}.counter: {MISSING}", *meter, mine)
-    refused(place, "NoCounter", f"--book {book}: {book}.counter: {MISSING}", *led_by, keys)
+    refused(place, "NoCounter", f"--keys {mine}: {mine}.counter: {MISSING}", *meter, mine)
+    refused(place, "NoCounter", f"--keys {keys}: {keys}.counter: {MISSING}", *led_by, keys)
     refused(place, "BadKeys 1 BadTitle", f"--keys {keys}", *meter, keys, "--new-counter")
     refused(place, "BadKeys 1 BadFields", f"--keys {mine}", *led_by, mine, "--new-counter")
     list_of.write_text("1,127.0.0.1:9\n3,127.0.0.1:10\n")
     refused(place, "NoKey 3", f"--keys {keys}", *led_by, keys, "--new-counter")
     list_of.write_text("1,127.0.0.1:9\n")
-    for at, option, words, own in ((store, "--store", meter, mine), (book, "--book", led_by, keys)):
-        counter = at.with_name(f"{at.name}.counter")
+    for words, own in ((meter, mine), (led_by, keys)):
+        counter = own.with_name(f"{own.name}.counter")
         counter.write_text("another program's file")
-        refused(place, "CounterExists", f"{option} {at}: {counter}: a file is there already", *words, own, "--new-counter")
-        refused(place, "CounterFault", f"{option} {at}: {counter}", *words, own)
+        refused(place, "CounterExists", f"--keys {own}: {counter}: a file is there already", *words, own, "--new-counter")
+        refused(place, "CounterFault", f"--keys {own}: {counter}", *words, own)
         counter.unlink()
         os.symlink(none, counter)
-        refused(place, "CounterExists", f"{option} {at}: {counter}: a file is there already", *words, own, "--new-counter")
+        refused(place, "CounterExists", f"--keys {own}: {counter}: a file is there already", *words, own, "--new-counter")
         counter.unlink()
     for words in ([*meter, mine, "--count", 2], [*meter[:-1], "--new-counter"], [*led_by[:-1], "--strict"]):
         status, out, said = place.run(*words)
         wants((status, out) == (2, "") and said[0].startswith("error: "), f"{words} ends with {status}, {out} and {said}")
 
 
+# To be seen: a counter of its own for each book, or each store, under the same keys.
+def keys_have_one_counter(place):
+    """Under the keys of a file one process seals at a time, whatever its book or its store is, and a new counter is made once."""
+    folder, head = place.folder, free_address()
+    keys, mine = head_keys(folder), meter_keys(folder, head)
+    counters = [f"--keys {own}: {own}.counter: " for own in (mine, keys)]
+    second_meter = ["meter", "--listen", f"{HOST}:0", "--store", folder / "second.fw", "--keys", mine]
+    with starts(folder, head, "--new-counter").killed() as meter:
+        refused(place, "CounterLocked", f"{counters[0]}another process has it open", *second_meter)
+        refused(place, "CounterExists", f"{counters[0]}a file is there already", *second_meter, "--new-counter")
+        brings(folder, head, 1, IMAGE, "--new", "--new-counter")
+        activated(meter, 1, IMAGE)
+        second = ["head", "--head", 7, "--book", folder / "second.book", "--new", "--meters", folder / "meters.csv", "--listen", f"{HOST}:0",
+                  "--keys", keys]
+        refused(place, "CounterExists", f"{counters[1]}a file is there already", *second, "--new-counter")
+        with led(folder, head, "--keys", keys, "--stay").running() as process:
+            wait_for(lambda: "listening" in process.process.stdout.readline(), "the head end doesn't listen")
+            refused(place, "CounterLocked", f"{counters[1]}another process has it open", *second)
+            wants(process.process.poll() is None, f"the head end ended with {process.process.poll()}")
+    # Once the first one has ended, another store goes on with its counter.
+    with Meter(folder / "second.fw", "--keys", mine).killed() as meter:
+        (folder / "meters.csv").write_text(f"1,{name_of(meter.address)}\n")
+        brings(folder, head, 2, IMAGE[1:])
+        activated(meter, 2, IMAGE[1:])
+    made = sorted(file.name for file in folder.iterdir() if "counter" in file.name)
+    wants(made == ["head.keys.counter", "meter.keys.counter"], f"the counters are {made}")
+
+
+# To be seen: a meter at all IPv6 addresses that looks for an IPv4 head end under the address that its key file has, and not the one that
+# comes.
+def ipv4_head_ends_are_heard_at_all_addresses(place):
+    """A meter at [::] takes an image of an IPv4 head end of its keys, whose address stands there as IPv4 or as IPv4-mapped."""
+    if not has_ipv6():
+        raise Skipped("there is no IPv6")
+    for name, host in (("plain", HOST), ("mapped", f"[::ffff:{HOST}]")):
+        part, head = place.sub(name), free_address()
+        keys = secret(part.folder / "meter.keys", f"{METER_TITLE}\n{host}:{head[1]},{HEAD_TITLE},{','.join(KEYS)}\n")
+        with Meter(part.folder / "meter.fw", "--keys", keys, "--new-counter", listen="[::]:0").killed() as meter:
+            listed(part.folder, [(HOST, meter.address[1])])
+            brings(part.folder, head, 1, IMAGE, "--new", "--new-counter")
+            activated(meter, 1, IMAGE)
+
+
+def has_ipv6():
+    """Whether a socket can be bound at all IPv6 addresses here."""
+    with socket.socket(socket.AF_INET6, socket.SOCK_DGRAM) as made:
+        try:
+            made.bind(("::", 0))
+        except OSError:
+            return False
+    return True
+
+
+# To be seen: an end that waits for what nobody writes; one that takes keys by another name, beside which they would have another counter; one
+# that gives no reason where the counter can't be made.
+def what_is_no_key_file_is_refused(place):
+    """Keys are a regular file with one name, and their counter stands beside them: anything else is refused at once, and says why."""
+    folder, head = place.folder, free_address()
+    keys, mine = head_keys(folder), meter_keys(folder, head)
+    (folder / "meters.csv").write_text("1,127.0.0.1:9\n")
+    meter = ["meter", "--listen", f"{HOST}:0", "--store", folder / "meter.fw", "--new-counter", "--keys"]
+    led_by = ["head", "--head", 7, "--book", folder / "head.book", "--new", "--meters", folder / "meters.csv", "--listen", f"{HOST}:0",
+              "--new-counter", "--keys"]
+    why = "it is a link, or no regular file, or has another name as well"
+    for words, own in ((meter, mine), (led_by, keys)):
+        other = folder / "other"
+        for make in (lambda: os.mkfifo(other, 0o600), other.mkdir, lambda: other.symlink_to(own), lambda: other.hardlink_to(own)):
+            make()
+            at_once(place, "KeysFault", f"--keys {other}: {why}", *words, other)
+            if other.is_dir():
+                other.rmdir()
+            else:
+                other.unlink()
+    # Whoever may write anywhere isn't refused.
+    if os.getuid():
+        folder.chmod(0o500)
+        for words, own in ((meter, mine), (led_by, keys)):
+            at_once(place, "CounterFault", f"--keys {own}: {own}.counter.new: the right to do so is missing", *words, own)
+        folder.chmod(0o700)
+
+
+def at_once(place, fault, second, *words):
+    """A command is refused for this fault, with this second line, before long."""
+    start = time.monotonic()
+    said = place.run(*words)
+    wants(said == (1, "", [f"dlmsfw: {fault}", second]), f"{words} ends with {said}")
+    wants(time.monotonic() < start + PATIENCE, f"{words} takes {time.monotonic() - start} s")
+
+
 STEPS = [
     images_go_over_sealed_links,
     others_bring_nothing,
     counters_go_on,
+    keys_have_one_counter,
+    ipv4_head_ends_are_heard_at_all_addresses,
+    what_is_no_key_file_is_refused,
     what_does_not_open_is_counted,
     strict_links_have_a_block_at_a_time,
     keys_and_counters_are_refused,

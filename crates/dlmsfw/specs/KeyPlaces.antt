@@ -13,7 +13,7 @@ use Rattle.dlmsfw.specs.declared.key_places.KeyPlace.TheVariants.{Made, Meters}
 use Rattle.dlmsfw.specs.declared.key_places.KeyPlaces.{KeyPlaces}
 use Rattle.dlmsfw.specs.declared.refusal.Refusal.{Refusal}
 
--- the option with its value, and of a file that is made its path behind
+-- the option with its value, and behind that of --out the path of the file that is made
 abbrev pub key_place_text : KeyPlace → List ℕ
 key_place_text (Meters file) = codes "--meters " ++ file.now
 key_place_text (Made folder owner) = codes "--out " ++ (folder.now ++ (codes ": " ++ path_in folder.now owner))
@@ -28,7 +28,7 @@ key_place_in fault owner places = None
 abbrev pub key_place_of : KeysFailure → KeyPlaces → Option KeyPlace
 key_place_of failure places = key_place_in failure.fault failure.owner places
 
--- of a file that is made the reason is told that stands with the fault
+-- If the file of an end can't be made, what is told is the reason that came with the fault, or nothing if none did.
 abbrev pub TellsKeyReason : Option KeyPlace → Option Reason → Option Refusal → Type 0
 TellsKeyReason (Some (Made folder owner)) reason told = told ≡ reason_told reason
 TellsKeyReason place reason told = Unit {0}

@@ -41,9 +41,9 @@ store_place_of fault file = None
 abbrev pub factory_of : MeterPlaces → Place
 factory_of places = option_map_or FactoryFile places.factory_file (Capacity places.capacity)
 
--- the file of the counters beside that of a meter
+-- the file of the counters beside that of the keys of a meter
 abbrev pub counter_of : Name → MeterPlaces → Option Place
-counter_of name places = Some (Counter (record { path = places.store; name = name }))
+counter_of name places = option_map (λ path. Counter (record { path = path; name = name })) places.keys
 
 abbrev pub place_in : Fault → Option ℕ → Name → MeterPlaces → Option Place
 place_in Socket number name places = Some (listen_of number places)
@@ -71,9 +71,9 @@ answer_place_of because store = store_place_of because.error (record store { nam
 abbrev pub book_file : Name → BookPlaces → BookPlace
 book_file name places = Book (record { path = places.book; number = None; name = name })
 
--- the file of the counters beside that of a book
+-- the file of the counters beside that of the keys of a head end
 abbrev pub book_counter : Name → BookPlaces → Option BookPlace
-book_counter name places = Some (HeadCounter (record { path = places.book; name = name }))
+book_counter name places = option_map (λ path. HeadCounter (record { path = path; name = name })) places.keys
 
 -- the campaign that is cancelled first, or the one that a cancelling is of
 abbrev pub cancelled_place : Option ℕ → Option ℕ → Option BookPlace
@@ -113,7 +113,7 @@ book_place_in fault name places = None
 abbrev pub book_place_of : Because Fault → BookPlaces → Option BookPlace
 book_place_of because places = book_place_in because.error (name_in because.reason) places
 
--- of a store, a capture, keys and counters the reason is told that stands with the fault
+-- Of a store, a capture, keys and counters what is told is the reason that came with the fault, or nothing if none did.
 abbrev pub TellsReason : Option Place → Option Reason → Option Refusal → Type 0
 TellsReason (Some (Store file)) reason told = told ≡ reason_told reason
 TellsReason (Some (Capture file)) reason told = told ≡ reason_told reason

@@ -15,6 +15,6 @@ refusal_of AddrNotAvailable = NoAddress
 refusal_of PermissionDenied = File NoRight
 refusal_of kind = Other kind
 
--- why a file was refused, if a reason stands with its fault
+-- why a file was refused, if a reason came with its fault
 abbrev pub reason_told : Option Reason → Option Refusal
 reason_told reason = option_map (λ (r : Reason). File r.cause) reason

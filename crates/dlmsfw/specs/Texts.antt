@@ -25,7 +25,7 @@ beside_text Journal path = path ++ (codes ": " ++ (path ++ codes ".journal"))
 abbrev pub file_text : NamedFile → List ℕ
 file_text file = beside_text file.name (file.path.now ++ number_text file.number)
 
--- the path of a file, and that of its counters beside it, or of the one beside those
+-- the path of a key file, and that of its counters beside it, or of the one beside those
 abbrev pub counter_text : CounterFile → List ℕ
 counter_text file = file.path.now ++ (codes ": " ++ (file.path.now ++ (codes ".counter" ++ ending_of file.name)))
 
@@ -37,7 +37,7 @@ place_text (place.FactoryFile file) = codes "--factory-file " ++ file.now
 place_text (place.Capacity capacity) = codes "--capacity " ++ decimal capacity
 place_text (place.Capture file) = codes "--capture " ++ file_text file
 place_text (place.Keys file) = codes "--keys " ++ file.now
-place_text (place.Counter file) = codes "--store " ++ counter_text file
+place_text (place.Counter file) = codes "--keys " ++ counter_text file
 
 abbrev pub book_place_text : BookPlace → List ℕ
 book_place_text (book.Book file) = codes "--book " ++ file_text file
@@ -49,4 +49,4 @@ book_place_text (book.Cancel serial) = codes "--cancel " ++ decimal serial
 book_place_text (book.Campaign serial) = codes "--campaign " ++ decimal serial
 book_place_text (book.HeadCapture file) = codes "--capture " ++ file_text file
 book_place_text (book.HeadKeys file) = codes "--keys " ++ file.now
-book_place_text (book.HeadCounter file) = codes "--book " ++ counter_text file
+book_place_text (book.HeadCounter file) = codes "--keys " ++ counter_text file

@@ -36,7 +36,8 @@ abbrev pub trace_place_of : TraceFault → TracePlaces → Option TracePlace
 trace_place_of (Unopened reason) places = option_map Capture places.capture
 trace_place_of (Ended fault) places = trace_place_in fault places
 
--- The reason is told that stands with the fault. Without one the system may be asked why the capture can't be read.
+-- What is told of a file is the reason that came with the fault, or nothing if none did; but then the system may be asked why the capture
+-- can't be read.
 abbrev pub TellsTraceReason : Option TracePlace → Option Reason → Option Refusal → Type 0
 TellsTraceReason None reason told = told ≡ None
 TellsTraceReason (Some (Capture file)) None told = Unit {0}

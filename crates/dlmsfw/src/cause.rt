@@ -101,7 +101,7 @@ impl fmt::Display for NamedFile<'_> {
     }
 }
 
-/// The file of the counters beside the one at a path, or the one beside that which is meant.
+/// The file of the counters beside the key file at a path, or the one beside that which is meant.
 #[derive(Clone, Copy)]
 pub(crate) struct CounterFile<'a> {
     path: &'a str,
@@ -188,7 +188,7 @@ pub(crate) enum Place<'a> {
     Capture(NamedFile<'a>),
     /// The file of its keys.
     Keys(&'a str),
-    /// The file of its counters, beside its own.
+    /// The file of its counters, beside that of its keys.
     Counter(CounterFile<'a>),
 }
 
@@ -204,7 +204,7 @@ impl fmt::Display for Place<'_> {
             Place::Capacity(capacity) => write!(f, "--capacity {capacity}"),
             Place::Capture(file) => write!(f, "--capture {file}"),
             Place::Keys(file) => write!(f, "--keys {file}"),
-            Place::Counter(file) => write!(f, "--store {file}"),
+            Place::Counter(file) => write!(f, "--keys {file}"),
         }
     }
 }
@@ -246,7 +246,7 @@ pub(crate) fn place_of<'a>(ended: MeterFault, places: MeterPlaces<'a>) -> Option
         | Fault::CounterLocked
         | Fault::CounterFault
         | Fault::CounterSpent => Some(Place::Counter(CounterFile {
-            path: places.store,
+            path: places.keys?,
             name,
         })),
         fault => store_place_of(fault, store),
@@ -275,8 +275,8 @@ pub(crate) fn answer_place_of<'a>(
     store_place_of(because.error, NamedFile { name, ..store })
 }
 
-/// Why what the fault of a meter is about is refused: of a store, a capture, keys or counters the reason that stands with the fault. If it
-/// is an address or a file to read, and the system refuses it now, why it does.
+/// Why what the fault of a meter is about is refused. Of a store, a capture, keys or counters it is the reason that came with the fault. Of
+/// an address, or of a file that is read, it is why the system refuses that now, if it does.
 pub(crate) fn refusal_of(
     rt: &(impl Net + Files),
     ended: MeterFault,
@@ -383,7 +383,7 @@ pub(crate) enum BookPlace<'a> {
     HeadCapture(NamedFile<'a>),
     /// The file of the keys.
     HeadKeys(&'a str),
-    /// The file of the counters, beside that of the book.
+    /// The file of the counters, beside that of the keys.
     HeadCounter(CounterFile<'a>),
 }
 
@@ -401,7 +401,7 @@ impl fmt::Display for BookPlace<'_> {
             BookPlace::Campaign(serial) => write!(f, "--campaign {serial}"),
             BookPlace::HeadCapture(file) => write!(f, "--capture {file}"),
             BookPlace::HeadKeys(file) => write!(f, "--keys {file}"),
-            BookPlace::HeadCounter(file) => write!(f, "--book {file}"),
+            BookPlace::HeadCounter(file) => write!(f, "--keys {file}"),
         }
     }
 }
@@ -450,15 +450,15 @@ pub(crate) fn book_place_of<'a>(
         | Fault::CounterLocked
         | Fault::CounterFault
         | Fault::CounterSpent => Some(BookPlace::HeadCounter(CounterFile {
-            path: places.book,
+            path: places.keys?,
             name,
         })),
         _ => None,
     }
 }
 
-/// Why what the fault of a head end is about is refused: of a book, a capture, keys or counters the reason that stands with the fault. If
-/// it is an address or a file to read, and the system refuses it now, why it does.
+/// Why what the fault of a head end is about is refused. Of a book, a capture, keys or counters it is the reason that came with the fault.
+/// Of an address, or of a file that is read, it is why the system refuses that now, if it does.
 pub(crate) fn book_refusal_of(
     rt: &(impl Net + Files),
     because: &Because<Fault>,

@@ -62,8 +62,8 @@ pub(crate) fn place_of<'a>(failure: &KeysFailure, places: &KeyPlaces<'a>) -> Opt
     }
 }
 
-/// Why it is refused: of a file that can't be made the reason that stands with the fault. If the list can't be read, and the system refuses
-/// it now, why it does.
+/// Why it is refused. Of a file that can't be made it is the reason that came with the fault. Of a list that can't be read it is why the
+/// system refuses that now, if it does.
 pub(crate) fn refusal_of(
     files: &impl Files,
     failure: &KeysFailure,

@@ -103,7 +103,7 @@ pub(crate) fn place_of<'a>(ended: TraceFault, places: TracePlaces<'a>) -> Option
     }
 }
 
-/// Why a file of a trace is refused: the reason that stands with the fault. If none does, and the file that has the capture can't be read, the
+/// Why a file of a trace is refused: the reason that came with the fault. If none did, and the file that has the capture can't be read, the
 /// system is asked.
 pub(crate) fn refusal_of(
     files: &impl Files,

@@ -1,6 +1,7 @@
 -- Which faults of a daemon are of its sealed links, and over which links it is served.
 use Rattle.std.proofs.Common.{◌≡◌, ◌∙◌, ℕ, List, Bool, true, false, Option, Some, None, Result, Ok, Err, IfErr, inl, inr, refl, sym, subst}
 use Rattle.std.specs.Prelude.{IsTrue, is_some, ◌⊎◌}
+use Rattle.std.specs.declared.net.socket_addr.SocketAddr.{SocketAddr}
 use Rattle.fw_faults.specs.declared.fault.Fault.{Fault}
 use Rattle.fw_faults.specs.declared.fault.Fault.TheVariants as fault
 use Rattle.fw_rollout.specs.declared.link.Listed.{Listed}
@@ -200,21 +201,24 @@ no_counter f (inr (inr (inr spent))) keyed = not_true (subst (IsKeyed None) spen
 
 -- ---- the links
 
-pub meter_plain : (s : Option SealingOptions) → s ≡ None → IsMeterSealing s None
-meter_plain s none = subst (λ (o : Option SealingOptions). IsMeterSealing o None) (sym none) refl
+pub meter_plain : (own : SocketAddr) (s : Option SealingOptions) → s ≡ None → IsMeterSealing own s None
+meter_plain own s none = subst (λ (o : Option SealingOptions). IsMeterSealing own o None) (sym none) refl
 
-pub meter_sealed : (s : Option SealingOptions) (options : SealingOptions) (links : Links) → s ≡ Some options → HasMeterLinks options.order links → IsMeterSealing s (Some links)
-meter_sealed s options links some has = subst (λ (o : Option SealingOptions). IsMeterSealing o (Some links)) (sym some) (links, refl, has)
+pub meter_sealed : (own : SocketAddr) (s : Option SealingOptions) (options : SealingOptions) (links : Links) → s ≡ Some options
+    → HasMeterLinks own options.order links → IsMeterSealing own s (Some links)
+meter_sealed own s options links some has = subst (λ (o : Option SealingOptions). IsMeterSealing own o (Some links)) (sym some) (links, refl, has)
 
-pub meter_served : (s : Option SealingOptions) (sealing : Option Sealing) (it : Sealing) → sealing ≡ Some it → IsMeterSealing s (links_in sealing) → IsMeterSealing s (Some it.links)
-meter_served s sealing it some is = subst (λ (o : Option Sealing). IsMeterSealing s (links_in o)) some is
+pub meter_served : (own : SocketAddr) (s : Option SealingOptions) (sealing : Option Sealing) (it : Sealing) → sealing ≡ Some it
+    → IsMeterSealing own s (links_in sealing) → IsMeterSealing own s (Some it.links)
+meter_served own s sealing it some is = subst (λ (o : Option Sealing). IsMeterSealing own s (links_in o)) some is
 
-no_meter_links : (s : Option SealingOptions) → IsMeterSealing s None → s ≡ None
-no_meter_links None is = refl
-no_meter_links (Some options) (links, same, has) = absurd cc
+no_meter_links : (own : SocketAddr) (s : Option SealingOptions) → IsMeterSealing own s None → s ≡ None
+no_meter_links own None is = refl
+no_meter_links own (Some options) (links, same, has) = absurd cc
 
-pub meter_has_none : (s : Option SealingOptions) (sealing : Option Sealing) → sealing ≡ None → IsMeterSealing s (links_in sealing) → s ≡ None
-meter_has_none s sealing none is = no_meter_links s (subst (λ (o : Option Sealing). IsMeterSealing s (links_in o)) none is)
+pub meter_has_none : (own : SocketAddr) (s : Option SealingOptions) (sealing : Option Sealing) → sealing ≡ None → IsMeterSealing own s (links_in sealing)
+    → s ≡ None
+meter_has_none own s sealing none is = no_meter_links own s (subst (λ (o : Option Sealing). IsMeterSealing own s (links_in o)) none is)
 
 pub head_plain : (s : Option SealingOptions) (head : ℕ) (list : List Listed) → s ≡ None → IsHeadSealing s head list None
 head_plain s head list none = subst (λ (o : Option SealingOptions). IsHeadSealing o head list None) (sym none) refl

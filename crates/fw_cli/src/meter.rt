@@ -124,7 +124,8 @@ impl From<Fault> for MeterFault {
 /// unless that is asked for too.
 ///
 /// With keys there is one meter, and each datagram that it takes and sends is sealed, on one of the links of the file of its keys. What comes
-/// from elsewhere, or doesn't open, is dropped. The counters of what it sends are in the file of the meter with `.counter` after it.
+/// from elsewhere, or doesn't open, is dropped. The counters of what it sends are in the file of its keys with `.counter` after it, whatever
+/// the file of the meter is.
 ///
 /// All sockets are bound first, and keys are read. Then each meter's file that is there is opened, what new meters are made with is judged,
 /// and counters that are there are opened. The file of the capture comes next, then a new one of counters, and new files of meters last.
@@ -145,7 +146,7 @@ impl From<Fault> for MeterFault {
 /// - `KeysFault`, `KeysReadable`, `BadKeys`: the file of the keys can't be opened or read, others than its owner may read it, or this line is
 ///   none of it. No file was made.
 /// - `NoCounter`, `CounterExists`: no file of counters is there and none is to be made, or one is there and is to be made. No file was made.
-///   `CounterLocked`: another process has it.
+///   `CounterLocked`: another process has it, whatever meter it is: one at a time seals with these keys.
 /// - `CounterFault`: it can't be made, opened or read, or holds no counters; no file of a meter was made. Or it can't be written while the
 ///   meter serves, and nothing is sent from then on.
 /// - `CounterSpent`: all counters are used, and nothing is sent from then on.
@@ -200,13 +201,13 @@ fn serve_one<R: Files<File = File> + Clock + Eprint + Net + Wait, W: Write>(
     ensures faults { IfErr result (λ b. IsOfMeter b.error) }
 {
     let Listening { port, at } = Listening::of(UdpPort::bind(rt, options.listen))?;
-    let keyed = keyed_meter(rt, alloc, options.sealing)?;
+    let keyed = keyed_meter(rt, alloc, options.listen, options.sealing)?;
     let judged = Judge::of(options.fresh).meter(rt, alloc, options.store)?;
-    let links = JudgedSealing::of(rt, alloc, options.store, keyed)?;
+    let links = JudgedSealing::of(rt, alloc, keyed)?;
     let strangers = strangers_of(alloc, &options.heads, options.captures_strangers)?;
     let heads = heads_of(alloc, options)?;
     let file = CaptureFile::opened(rt, alloc, options.capture)?;
-    let sealing = links.made(rt, alloc, options.store)?;
+    let sealing = links.made(rt, alloc)?;
     let meter = judged.made(rt, options.store)?;
     let mut daemon = MeterDaemon::new(meter, heads);
     serve_daemon(
@@ -272,7 +273,7 @@ fn serve_daemon<R: Files<File = File> + Clock + Wait, W: Write>(
     requires strangers { (address : Address) → is_stranger port.strangers.known address ≡ is_strange options.now.heads.items address }
 
     // If keys are given, its links are those of their file. Without keys it has none.
-    requires links { IsMeterSealing options.now.sealing (links_in port.sealing) }
+    requires links { IsMeterSealing options.now.listen options.now.sealing (links_in port.sealing) }
     ensures ends { IsErr result }
     ensures silent { IfErr result (λ b. b.error ≢ Fault.Socket → b.error ≢ Fault.Output → b.error ≢ Fault.CaptureFault
         → b.error ≢ Fault.CounterFault → b.error ≢ Fault.CounterSpent → Keeps (W.contents writer.old) (W.contents writer.new)) }
@@ -326,7 +327,7 @@ fn serve_sealed<R: Clock + Wait, W: Write, V: Sink + Drop>(
     daemon: &mut MeterDaemon<FileStore>,
     options: &MeterOptions<'_>,
 ) -> ClosedBy
-    requires links { IsMeterSealing options.now.sealing (Some port.old.links) }
+    requires links { IsMeterSealing options.now.listen options.now.sealing (Some port.old.links) }
 {
     let Closed = serve_told(rt, alloc, lines, port, daemon);
     port.closed_by()

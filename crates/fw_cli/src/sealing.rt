@@ -1,4 +1,4 @@
-//! What a daemon seals with, if its options give keys: the links of the file of its keys, and their counters.
+//! What a daemon seals with, if its options give keys: the links of the file of its keys, and the counters of these, in the file beside it.
 
 ghost use Rattle.std.specs.Prelude.{◌≡◌, IfErr, IfOk, true};
 ghost use Rattle.fw_host.specs.Sealings.{IsOfCounters, IsOfHeadKeys, IsOfMeterKeys};
@@ -13,6 +13,7 @@ use fw_rollout::Listed;
 use fw_sealport::Links;
 use std::alloc::Global;
 use std::fs::File;
+use std::net::SocketAddr;
 use std::rt::Files;
 
 /// The links of a daemon, as the file of its keys has them.
@@ -22,21 +23,22 @@ pub(crate) struct Keyed<'a> {
     links: Links,
 }
 
-/// The links of a meter, if its options give keys.
+/// The links of a meter that listens at `own`, if its options give keys.
 pub(crate) fn keyed_meter<'a, F: Files<File = File>>(
     rt: &F,
     alloc: Global,
+    own: SocketAddr,
     sealing: Option<SealingOptions<'a>>,
 ) -> Result<Option<Keyed<'a>>, Because<Fault>>
     ensures options { IfOk result (λ keyed. options_of keyed ≡ sealing.entry) }
-    ensures links { IfOk result (λ keyed. IsMeterSealing sealing.entry (links_of keyed)) }
+    ensures links { IfOk result (λ keyed. IsMeterSealing own sealing.entry (links_of keyed)) }
     ensures keyed { IfErr result (λ b. IsKeyed sealing.entry b.error) }
     ensures faults { IfErr result (λ b. IsOfMeterKeys b.error) }
 {
     let Some(options) = sealing else {
         return Ok(None);
     };
-    let links = meter_links(rt, alloc, &options)?;
+    let links = meter_links(rt, alloc, &options, own)?;
     Ok(Some(Keyed { options, links }))
 }
 
@@ -61,17 +63,17 @@ pub(crate) fn keyed_head<'a, F: Files<File = File>>(
 }
 
 /// What a daemon seals with, once it was judged.
-pub(crate) enum JudgedSealing {
+pub(crate) enum JudgedSealing<'a> {
     /// It has no keys.
     Plain,
     /// The file of its counters is there, and has them.
     Found(Sealing),
     /// No such file is there. It is made for these links.
-    New(Links),
+    New(Keyed<'a>),
 }
 
 // Written out, so that letting go of it is one call in a proof. A derived `Drop` is unfolded there field by field, which takes minutes.
-impl Drop for JudgedSealing {
+impl Drop for JudgedSealing<'_> {
     fn drop(self) {
         match self {
             JudgedSealing::Plain => {}
@@ -81,14 +83,13 @@ impl Drop for JudgedSealing {
     }
 }
 
-impl JudgedSealing {
-    /// With these links. Their counters are in the file beside the one at this path. No file is made.
-    pub(crate) fn of<F: Files<File = File> + Eprint>(
+impl<'a> JudgedSealing<'a> {
+    /// With these links, and the counters of their keys. No file is made.
+    pub(crate) fn of<F: Files<File = File>>(
         rt: &F,
         alloc: Global,
-        path: &str,
-        keyed: Option<Keyed<'_>>,
-    ) -> Result<JudgedSealing, Because<Fault>>
+        keyed: Option<Keyed<'a>>,
+    ) -> Result<JudgedSealing<'a>, Because<Fault>>
         ensures links { IfOk result (λ judged. links_judged judged ≡ links_of keyed.entry) }
         ensures makes { IfOk result (λ judged. AreMade judged → MakesCounter (options_of keyed.entry)) }
         ensures keyed { IfErr result (λ b. IsKeyed (options_of keyed.entry) b.error) }
@@ -98,28 +99,27 @@ impl JudgedSealing {
             return Ok(JudgedSealing::Plain);
         };
         if options.makes_counter {
-            check_no_counter(rt, alloc, path)?;
-            return Ok(JudgedSealing::New(links));
+            check_no_counter(rt, alloc, options.keys)?;
+            return Ok(JudgedSealing::New(Keyed { options, links }));
         }
-        let counters = kept_counters(rt, alloc, path, false)?;
+        let counters = kept_counters(rt, alloc, options.keys, false)?;
         Ok(JudgedSealing::Found(Sealing { links, counters }))
     }
 
     /// With its counters, whose file is made where it isn't there.
-    pub(crate) fn made<F: Files<File = File> + Eprint>(
+    pub(crate) fn made<F: Files<File = File>>(
         self,
         rt: &F,
         alloc: Global,
-        path: &str,
     ) -> Result<Option<Sealing>, Because<Fault>>
-        ensures links { IfOk result (λ sealing. links_in sealing ≡ links_judged self) }
-        ensures faults { IfErr result (λ b. AreMade self × IsOfCounters true b.error) }
+        ensures links { IfOk result (λ sealing. links_in sealing ≡ links_judged self.entry) }
+        ensures faults { IfErr result (λ b. AreMade self.entry × IsOfCounters true b.error) }
     {
         match self {
             JudgedSealing::Plain => Ok(None),
             JudgedSealing::Found(sealing) => Ok(Some(sealing)),
-            JudgedSealing::New(links) => {
-                let counters = kept_counters(rt, alloc, path, true)?;
+            JudgedSealing::New(Keyed { options, links }) => {
+                let counters = kept_counters(rt, alloc, options.keys, true)?;
                 Ok(Some(Sealing { links, counters }))
             }
         }

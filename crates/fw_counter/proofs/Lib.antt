@@ -1,3 +1,4 @@
 mod Records
 mod Keeps
+mod Telling
 mod Repeats

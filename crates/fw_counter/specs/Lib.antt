@@ -1,5 +1,6 @@
 -- Public vocabulary: the words of public clauses, for callers and readers.
 pub mod Reserved
+pub mod Told
 pub mod Moves
 pub mod Counters
 pub mod Refusals

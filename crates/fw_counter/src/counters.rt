@@ -21,17 +21,17 @@ ghost use Rattle.std.specs.Prelude.{
   IsTrue,
   false,
 };
-ghost use Rattle.fw_journal.specs.Book.{Drops, Stands};
 ghost use Rattle.fw_journal.specs.Device.{LeavesOnly, Keeps};
-ghost use Rattle.fw_journal.specs.Keeping.{KeepsFirst};
 ghost use Rattle.fw_journal.specs.Refusals.{IsMakingRefusal};
 ghost use Rattle.fw_counter.specs.Moves.{Counter, Goes, MovesLead, uses, reserves, killed, limit, reserved_after, taken};
 ghost use Rattle.fw_counter.specs.Reserved.{HasNoCounter, HasReserved, Reserves};
 ghost use Rattle.fw_counter.specs.Refusals.{IsOpeningRefusal, IsTakingRefusal};
+ghost use Rattle.fw_counter.specs.Told.{ReservesAll, Tells};
 
-use crate::error::CounterError;
+use crate::error::{CounterError, OpeningError};
+use crate::gathering::gather;
 use crate::reading::{bound_of, reservation_of};
-use fw_journal::{Journal, JournalDevice, JournalError, Keeper, Replacer, RewriteError};
+use fw_journal::{Journal, JournalDevice, JournalError, MemoryKeeper, Replacer, RewriteError};
 use std::alloc::Global;
 
 /// How many counters are reserved at a time.
@@ -91,58 +91,65 @@ impl<D: JournalDevice> KeptCounters<D> {
         }
     }
 
-    /// Opens the counters that a power cut, or a process that was killed, may have left. All that are reserved count as used. The device is
-    /// synced first. What is cut off it and reads as records, the keeper has first.
+    /// Opens the counters that a power cut, or a process that was killed, may have left. All that are reserved count as used, and all that
+    /// the bytes tell are reserved: also those of records that stand from the shut gate on, as a commit that was cut leaves one, and a gate
+    /// that turned on the medium all from itself on. If these have the greatest number, the replacer puts a journal of it in the place of
+    /// the bytes before anything is cut off. The device is synced.
     ///
     /// # Errors
     ///
-    /// `NoCounter` if the bytes are no journal's, or if a record isn't a number of four bytes. Else `CounterFault` and `OutOfMemory`,
-    /// of the device or of the keeper, which may come in place of it. The device is returned.
-    pub fn open<K: Keeper>(
+    /// `NoCounter` if the bytes are no journal's, or if a record isn't a number of four bytes; the device is as it was. Else
+    /// `NotReplaced`, with the device as it was, and `CounterFault` and `OutOfMemory`, of the device or of the replacer, which may come in
+    /// place of `NoCounter`. The device is returned.
+    pub fn open<R: Replacer<D>>(
         alloc: Global,
         device: D,
-        keeper: &mut K,
-    ) -> Result<Self, (CounterError, D)>
+        replacer: &mut R,
+    ) -> Result<Self, (OpeningError, D)>
         ensures opened { IsTrue (D.honest device) → IfOk result (λ counters. Holds D.JournalDevice counters) }
         ensures reserved { IsTrue (D.honest device)
-            → IfOk result (λ counters. Reserves (D.contents device) (counter_of counters).reserved) }
+            → IfOk result (λ counters. Tells (D.contents device) (counter_of counters).reserved) }
         ensures next { IfOk result (λ counters. (counter_of counters).next ≡ (counter_of counters).reserved) }
 
         // What is opened goes on with the counter of those whose kill or whose cut left the bytes.
         ensures goes { IsTrue (D.honest device) → (used : List ℕ) (before : Counter) → HasReserved (D.contents device) before.reserved
             → IfOk result (λ counters. Goes used before (killed (counter_of counters).reserved) used (counter_of counters)) }
-        ensures none { IsTrue (D.honest device) → IfErr result (λ e. e.0 ≡ CounterError.NoCounter → HasNoCounter (D.contents device)) }
+        ensures none { IsTrue (D.honest device)
+            → IfErr result (λ e. e.0 ≡ OpeningError.Counter CounterError.NoCounter → HasNoCounter (D.contents device)) }
 
-        // A cut at any moment of the call leaves what one before it might have left, or a journal of the same records.
+        // A cut at any moment of the call leaves what one before it might have left, or records that reserve all that the bytes told.
         ensures any_moment { IsTrue (D.honest device) → IfOk result (λ counters. LeavesOnly D.moment D.left_since device (device_of counters)
-            (λ left. D.may_leave device left ⊎ ((records : List (List ℕ)) → Stands (D.contents device) records → Stands left records))) }
+            (λ left. D.may_leave device left ⊎ ReservesAll (D.contents device) left)) }
         ensures any_moment_err { IsTrue (D.honest device) → IfErr result (λ e. LeavesOnly D.moment D.left_since device e.1
-            (λ left. D.may_leave device left ⊎ ((records : List (List ℕ)) → Stands (D.contents device) records → Stands left records))) }
-
-        // What reads as records is cut off only once the keeper holds it.
-        ensures dropped { IsTrue (D.honest device) → (rest : List ℕ) (count : ℕ) → Drops (D.contents device) rest count → 1 ≤ count
-            → OnOk result (K.holds keeper.new rest) }
-        ensures kept_first { IsTrue (D.honest device)
-            → IfOk result (λ counters. KeepsFirst D.JournalDevice K.Keeper device (device_of counters) keeper.old keeper.new) }
-        ensures kept_first_err { IsTrue (D.honest device)
-            → IfErr result (λ e. KeepsFirst D.JournalDevice K.Keeper device e.1 keeper.old keeper.new) }
-        ensures never { IsTrue (D.honest device) → IsTrue (D.sound device) → IsTrue (K.sound keeper.old)
-            → IfErr result (λ e. e.0 ≢ CounterError.CounterFault) }
+            (λ left. D.may_leave device left ⊎ ReservesAll (D.contents device) left)) }
+        ensures never { IsTrue (D.honest device) → IsTrue (D.sound device)
+            → IfErr result (λ e. (e.0 ≢ OpeningError.Counter CounterError.CounterFault) × (e.0 ≢ OpeningError.NotReplaced)) }
         ensures refusals { IfErr result (λ e. IsOpeningRefusal e.0) }
         ensures kept { IfOk result (λ counters. Keeps D.honest D.sound device (device_of counters)) }
     {
         fw_journal::laws::one_reading();
         fw_journal::laws::bad_is_none();
-        match Journal::open(alloc, device, keeper) {
+        let mut device = device;
+        if let Err(refusal) = gather(alloc, &mut device, replacer) {
+            return Err((refusal, device));
+        }
+        // What is cut off now tells nothing more, and needn't be kept.
+        match Journal::open(alloc, device, &mut MemoryKeeper::new(alloc)) {
             Ok((journal, records)) => match bound_of(&records) {
                 Some(reserved) => Ok(KeptCounters {
                     journal,
                     next: reserved,
                     reserved,
                 }),
-                None => Err((CounterError::NoCounter, journal.into_device())),
+                None => Err((
+                    OpeningError::from(CounterError::NoCounter),
+                    journal.into_device(),
+                )),
             },
-            Err((refusal, device)) => Err((CounterError::from(refusal), device)),
+            Err((refusal, device)) => Err((
+                OpeningError::from(CounterError::from(refusal)),
+                device,
+            )),
         }
     }
 

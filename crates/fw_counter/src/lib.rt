@@ -4,8 +4,9 @@
 
 mod counters;
 mod error;
+mod gathering;
 pub mod laws;
 mod reading;
 
 pub use counters::KeptCounters;
-pub use error::CounterError;
+pub use error::{CounterError, OpeningError};

@@ -1,7 +1,12 @@
 -- The links of a daemon, one more beside others.
-use Rattle.std.proofs.Common.{◌≡◌, ◌⊎◌, ℕ, ◌+◌, ◌<◌, Bool, true, false, List, [], ◌∷◌, ◌++◌, Option, Some, None, All, Contains, drop, take, take-append-drop, length, refl, sym, ap, subst, ◌∙◌, inl, inr, arith}
+use Rattle.std.proofs.Common.{rules, ◌≡◌, ◌⊎◌, ℕ, ◌+◌, ◌<◌, Bool, true, false, List, [], ◌∷◌, ◌++◌, Option, Some, None, All, Contains, drop, take, take-append-drop, length, refl, sym, ap, subst, ◌∙◌, inl, inr, arith}
 use Rattle.std.specs.Prelude.{MatchOption, slice_index_or}
+use Rattle.std.specs.Net.Addr.{ipv6_segments}
+use Rattle.std.specs.Net.Socket.{v6_flowinfo, v6_ip, v6_port, v6_scope_id}
 use Rattle.std.specs.declared.net.socket_addr.SocketAddr.{SocketAddr}
+use Rattle.std.specs.declared.net.socket_addr.SocketAddr.TheVariants as socket
+use Rattle.std.specs.declared.net.socket_addr.SocketAddrV4.{SocketAddrV4}
+use Rattle.std.specs.declared.net.socket_addr.SocketAddrV6.{SocketAddrV6}
 use Rattle.std.specs.contracts.net.socket_addr.SocketAddrPartialEq.TheImpl as socket_eq
 use Rattle.std.proofs.lemmas.Bool.{false≢true}
 use Rattle.std.proofs.lemmas.List.{drop_more, take_more}
@@ -19,7 +24,7 @@ use Rattle.fw_sealport.specs.Peers.{Adds, peer_at}
 use Rattle.fw_sealport.specs.declared.links.Links.{Links}
 use Rattle.fw_sealport.specs.declared.peer.Peer.{Peer}
 use Rattle.fw_sealport.specs.declared.window.Order.{Order}
-use Rattle.fw_host.specs.Sealings.{AreLinksOf, HasLink, IsFirstWithout, IsListedAt, IsNamed, IsPeerOf, fault_of_key_file}
+use Rattle.fw_host.specs.Sealings.{AreLinksOf, HasLink, IsFirstWithout, IsListedAt, IsMapped, IsNamed, IsPeerOf, Shows, fault_of_key_file}
 
 -- what is said of an address, where these ends have one
 abbrev At : {N : Type 0} → KeyLinks N → (N → SocketAddr → Type 0) → SocketAddr → Option Peer → Type 0
@@ -71,9 +76,27 @@ pub no_meters : (order : Order) (file : KeyLinks ℕ) (links : Links) → ((addr
 no_meters order file links none is =
     (no_links order file (IsListedAt []) links none is (λ end address has. nothing_in (record { meter = end; address = address }) has), All-nil (λ (l : Listed). HasLink file.entries l.meter))
 
-pub no_heads : (order : Order) (file : KeyLinks SocketAddr) (links : Links) → ((address : SocketAddr) → peer_at links address ≡ None) → links.order ≡ order
-    → AreLinksOf order file (IsNamed []) links
-no_heads order file links none is = no_links order file (IsNamed []) links none is (λ end address has. nothing_in has.1.0 has.1.1)
+pub no_heads : (own : SocketAddr) (order : Order) (file : KeyLinks SocketAddr) (links : Links) → ((address : SocketAddr) → peer_at links address ≡ None) → links.order ≡ order
+    → AreLinksOf order file (IsNamed own []) links
+no_heads own order file links none is = no_links order file (IsNamed own []) links none is (λ end address has. nothing_in has.1.0 has.1.1)
+
+-- ---- the address that an end shows is one
+
+same_v6 : (x y : SocketAddrV6) → ipv6_segments (v6_ip x) ≡ ipv6_segments (v6_ip y) → v6_port x ≡ v6_port y → v6_flowinfo x ≡ v6_flowinfo y
+    → v6_scope_id x ≡ v6_scope_id y → x ≡ y
+same_v6 x y ip port flowinfo scope = search rules
+
+one_mapped : (v4 : SocketAddrV4) (a b : SocketAddr) → IsMapped v4 a → IsMapped v4 b → a ≡ b
+one_mapped v4 (socket.V6 x) (socket.V6 y) is also =
+    ap socket.V6 (same_v6 x y (is.ip ∙ sym also.ip) (is.plain.0 ∙ sym also.plain.0) (is.plain.1 ∙ sym also.plain.1) (is.plain.2 ∙ sym also.plain.2))
+one_mapped v4 (socket.V4 x) b is also = absurd is.ip
+one_mapped v4 (socket.V6 x) (socket.V4 y) is also = absurd also.ip
+
+one_shown : (own end a b : SocketAddr) → Shows own end a → Shows own end b → a ≡ b
+one_shown (socket.V6 own) (socket.V4 end) a b is also = one_mapped end a b is also
+one_shown (socket.V6 own) (socket.V6 end) a b is also = is ∙ sym also
+one_shown (socket.V4 own) (socket.V4 end) a b is also = is ∙ sym also
+one_shown (socket.V4 own) (socket.V6 end) a b is also = is ∙ sym also
 
 -- ---- an element more
 
@@ -127,17 +150,19 @@ module _ (list : List Listed) (i : ℕ) (at : Listed) (within : i < length list)
 
 -- ---- a head end of a file more
 
-module _ (file : KeyLinks SocketAddr) (i : ℕ) (entry : Entry SocketAddr) (within : i < length file.entries) (is : slice_index_or file.entries i entry ≡ entry) where
-  pub head_more : (order : Order) (links more : Links) (ends : Ends) (found : Entry SocketAddr) → AreLinksOf order file (IsNamed (take i file.entries)) links
-      → Adds links entry.end ends more → Contains file.entries found → found.end ≡ entry.end → ends ≡ ends_of file.own found.keys
-      → AreLinksOf order file (IsNamed (take (i + 1) file.entries)) more
-  head_more order links more ends found are adds in_file named link =
-      links_more order file (IsNamed (take i file.entries)) (IsNamed (take (i + 1) file.entries)) links more entry.end ends found are adds in_file link
+module _ (own : SocketAddr) (file : KeyLinks SocketAddr) (i : ℕ) (entry : Entry SocketAddr) (within : i < length file.entries)
+    (is : slice_index_or file.entries i entry ≡ entry) where
+  pub head_more : (order : Order) (links more : Links) (at : SocketAddr) (ends : Ends) (found : Entry SocketAddr)
+      → AreLinksOf order file (IsNamed own (take i file.entries)) links → Shows own entry.end at → Adds links at ends more → Contains file.entries found
+      → found.end ≡ entry.end → ends ≡ ends_of file.own found.keys → AreLinksOf order file (IsNamed own (take (i + 1) file.entries)) more
+  head_more order links more at ends found are shows adds in_file named link =
+      links_more order file (IsNamed own (take i file.entries)) (IsNamed own (take (i + 1) file.entries)) links more at ends found are adds in_file link
       (λ end address has. (has.0, (has.1.0, stays file.entries i entry within is has.1.0 has.1.1, has.1.2)))
-      (named, (entry, comes file.entries i entry within is, sym named))
+      (subst (λ e. Shows own e at) (sym named) shows, (entry, comes file.entries i entry within is, sym named))
       (λ end address has. elim (cases file.entries i entry within is has.1.0 has.1.1) [
         | inl old ↦ inl (has.0, (has.1.0, old, has.1.2))
-        | inr same ↦ inr (ap (λ (e : Entry SocketAddr). e.end) same ∙ has.1.2 ∙ has.0)
+        | inr same ↦ inr (one_shown own entry.end at address shows
+            (subst (λ e. Shows own e address) (sym has.1.2 ∙ sym (ap (λ (e : Entry SocketAddr). e.end) same)) has.0))
       ])
 
 -- ---- the faults of a key file

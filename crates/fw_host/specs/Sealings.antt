@@ -1,6 +1,10 @@
 -- Public vocabulary: the links and the counter of a daemon whose datagrams are sealed, from its files, and the faults of these.
 use Rattle.std.specs.Prelude.{◌≡◌, ℕ, ◌++◌, List, ◌∷◌, [], All, Contains, Bool, true, false, MatchOption}
+use Rattle.std.specs.Net.Addr.{MatchIp, embedded_segments, ipv6_segments}
+use Rattle.std.specs.Net.Socket.{IsPlainSocket, socket_ip, v4_ip, v4_port}
 use Rattle.std.specs.declared.net.socket_addr.SocketAddr.{SocketAddr}
+use Rattle.std.specs.declared.net.socket_addr.SocketAddr.TheVariants as socket
+use Rattle.std.specs.declared.net.socket_addr.SocketAddrV4.{SocketAddrV4}
 use Rattle.fw_counter.specs.Reserved.{Reserves}
 use Rattle.fw_journal.specs.declared.error.JournalError.{JournalError}
 use Rattle.fw_journal.specs.declared.error.JournalError.TheVariants as journal
@@ -42,9 +46,19 @@ pub record AreLinksOf {N : Type 0} (order : Order) (file : KeyLinks N) (HasAddre
 abbrev pub IsListedAt : List Listed → ℕ → SocketAddr → Type 0
 IsListedAt list meter address = Contains list (record { meter = meter; address = address })
 
--- one of these links is with the head end at this address, which is its name
-abbrev pub IsNamed : List (Entry SocketAddr) → SocketAddr → SocketAddr → Type 0
-IsNamed entries end address = (end ≡ address) × HasLink entries end
+-- this address is an IPv4 one as IPv6 has it: IPv4-mapped (RFC 4291, 2.5.5.2)
+pub record IsMapped (v4 : SocketAddrV4) (address : SocketAddr) : Type 0 where
+  pub ip : MatchIp (socket_ip address) (λ _. ⊥) (λ ip. ipv6_segments ip ≡ embedded_segments 0xffff (v4_ip v4))
+  pub plain : IsPlainSocket address (v4_port v4)
+
+-- what comes from an end shows this address to a socket at its own one
+abbrev pub Shows : SocketAddr → SocketAddr → SocketAddr → Type 0
+Shows (socket.V6 own) (socket.V4 end) address = IsMapped end address
+Shows own end address = address ≡ end
+
+-- one of these links is with the head end of this name, which shows this address to a meter at its own one
+abbrev pub IsNamed : SocketAddr → List (Entry SocketAddr) → SocketAddr → SocketAddr → Type 0
+IsNamed own entries end address = Shows own end address × HasLink entries end
 
 -- the links of a head end with just the meters of a list, as a text spells them
 pub record HasHeadLinks (order : Order) (head : ℕ) (list : List Listed) (links : Links) : Type 0 where
@@ -53,12 +67,12 @@ pub record HasHeadLinks (order : Order) (head : ℕ) (list : List Listed) (links
   pub spells : SpellsHeadKeys text head file
   pub are : AreLinksOf order file (IsListedAt list) links
 
--- the links of a meter with all head ends that a text has
-pub record HasMeterLinks (order : Order) (links : Links) : Type 0 where
+-- the links of a meter at its own address with all head ends that a text has
+pub record HasMeterLinks (own : SocketAddr) (order : Order) (links : Links) : Type 0 where
   pub text : List ℕ
   pub file : KeyLinks SocketAddr
   pub spells : SpellsMeterKeys text file
-  pub are : AreLinksOf order file (IsNamed file.entries) links
+  pub are : AreLinksOf order file (IsNamed own file.entries) links
 
 -- this meter is the first of a list with which a key file has no link
 pub record IsFirstWithout (file : KeyLinks ℕ) (list : List Listed) (meter : ℕ) : Type 0 where

@@ -1,41 +1,40 @@
-//! The counter of a daemon whose datagrams are sealed, in a file beside its book or its store.
+//! The counter of the keys of a daemon whose datagrams are sealed, in a file beside theirs. So under the keys of a file one process seals at a
+//! time, whatever books or stores there are, and each goes on where the last one ended.
 
-ghost use Rattle.std.specs.Prelude.{◌≡◌, ◌≢◌, ◌≤◌, ◌⊎◌, ◌++◌, ℕ, List, IfErr, IfOk, IsTrue, None, OnOk, Some, codes, string_bytes};
+ghost use Rattle.std.specs.Prelude.{◌≡◌, ◌≢◌, ◌⊎◌, ◌++◌, IfErr, IfOk, IsTrue, None, OnOk, Some, codes, string_bytes};
 ghost use Rattle.std.specs.Option.{option_map};
 ghost use Rattle.fw_counter.specs.Counters.{counter_of, device_of};
 ghost use Rattle.fw_counter.specs.Refusals.{IsOpeningRefusal};
-ghost use Rattle.fw_counter.specs.Reserved.{Reserves};
+ghost use Rattle.fw_counter.specs.Told.{Tells};
+ghost use Rattle.fw_counter.specs.declared.error.CounterError.{CounterError};
 ghost use Rattle.fw_disk.specs.Calls.{Stays};
 ghost use Rattle.fw_disk.specs.Disk.{absent, Goes};
 ghost use Rattle.fw_disk.specs.declared.cause.Cause.TheVariants.{Missing};
 ghost use Rattle.fw_disk.specs.declared.name.Name.TheVariants.{Main, New};
-ghost use Rattle.fw_journal.specs.Book.{Drops};
+ghost use Rattle.fw_faults.specs.Faults.{fault_of_counter};
 ghost use Rattle.fw_journal.specs.File.{cause_of};
 ghost use Rattle.fw_journal.specs.Refusals.{IsFileRefusal, IsNamingRefusal};
 ghost use Rattle.fw_host.specs.Sealings.{IsOfCounters, IsOfNewCounter, IsOfOldCounter, LeavesNewCounter, fault_of_counter_file};
 
 use crate::files::{folder_of, is_missing};
 use crate::head_book::old_device;
-use crate::head_dropped::DroppedFile;
 use crate::head_new_book::new_device;
-use fw_counter::{CounterError, KeptCounters};
+use fw_counter::{KeptCounters, OpeningError};
 use fw_disk::{Because, Cause, Folder, Found, Name, Reason, SystemFolder};
 use fw_faults::Fault;
-use fw_journal::{
-    FileDevice, FileReplacer, JournalDevice, JournalError, Keeper, Replacer, RewriteError,
-};
+use fw_journal::{FileDevice, FileReplacer, JournalDevice, JournalError, Replacer, RewriteError};
 use std::alloc::{AllocError, Global};
 use std::fs::File;
 use std::rt::Files;
 
-/// The path of the counter that belongs to the book or the store at this path.
-fn counter_path(alloc: Global, path: &str) -> Result<String, AllocError>
-    ensures { IfOk result (λ name. string_bytes name ≡ path.now ++ codes ".counter") }
+/// The path of the counter that belongs to the key file at this path.
+fn counter_path(alloc: Global, keys: &str) -> Result<String, AllocError>
+    ensures { IfOk result (λ name. string_bytes name ≡ keys.now ++ codes ".counter") }
 {
-    format!(in alloc; "{path}.counter")
+    format!(in alloc; "{keys}.counter")
 }
 
-/// Checks that the book or the store at this path has no counter. A new one begins with that.
+/// Checks that the key file at this path has no counter. A new one begins with that.
 ///
 /// # Errors
 ///
@@ -43,11 +42,11 @@ fn counter_path(alloc: Global, path: &str) -> Result<String, AllocError>
 pub fn check_no_counter<F: Files<File = File>>(
     rt: &F,
     alloc: Global,
-    path: &str,
+    keys: &str,
 ) -> Result<(), Because<Fault>>
     ensures faults { IfErr result (λ b. (b.error ≡ Fault.CounterExists) ⊎ ((b.error ≡ Fault.CounterFault) ⊎ (b.error ≡ Fault.OutOfMemory))) }
 {
-    let Ok(path) = counter_path(alloc, path) else {
+    let Ok(path) = counter_path(alloc, keys) else {
         return Err(Because::from(Fault::OutOfMemory));
     };
     let mut folder = folder_of(rt, path.as_str(), Fault::CounterFault)?;
@@ -69,33 +68,33 @@ fn check_none<F: Folder>(folder: &mut F) -> Result<(), Because<Fault>>
     }
 }
 
-/// The counters of the daemon whose book or store is at this path: those of the file PATH.counter, which no other process has open. All that
-/// are reserved there count as used. A new file is made as PATH.counter.new, and gets its name once the disk has all of it. So is one that is
-/// there: it is written anew before a counter is used. Whoever had it before may have ended since the disk failed, and then a sync of the old
-/// file may return `Ok` though a part of it isn't on the disk. A file that is named PATH.counter.new and is no journal is left as it is.
+/// The counters of the keys in the file at this path: those of the file KEYS.counter, which no other process has open. All that are reserved
+/// there count as used. A new file is made as KEYS.counter.new, and gets its name once the disk has all of it. So is one that is there: it is
+/// written anew before a counter is used. Whoever had it before may have ended since the disk failed, and then a sync of the old file may
+/// return `Ok` though a part of it isn't on the disk. A file that is named KEYS.counter.new and is no journal is left as it is.
 ///
-/// What is cut off a file that is there, and reads as records, is kept in PATH.counter.dropped first, and standard error is told how many
-/// records that are. If that can't be, nothing is cut off.
+/// Where a byte of a file that is there has turned on the disk, so that records stand behind a shut gate, what these reserve counts as used
+/// too, and is reserved anew before they are cut off.
 ///
 /// # Errors
 ///
-/// - `CounterLocked`: another process has the counter. `CounterFault`: its file can't be made, opened, read, written or synced, it can't be
-///   written anew as PATH.counter.new, or what is to be cut off it can't be kept. Both have their reason, if it is known.
-/// - Of a counter that is there `NoCounter`: there is no file. `CounterFault` without a reason: the file has no counter. It is left as it
-///   is, or as a journal of the same records.
+/// - `CounterLocked`: another process has the counter. `CounterFault`: its file can't be made, opened, read, written or synced, or it can't
+///   be written anew as KEYS.counter.new. Both have their reason, if it is known.
+/// - Of a counter that is there `NoCounter`: there is no file. `CounterFault` without a reason: the file has no counter, and is left as it
+///   is.
 /// - Of a new one `CounterExists`.
 /// - `OutOfMemory`.
-pub fn kept_counters<F: Files<File = File> + Eprint>(
+pub fn kept_counters<F: Files<File = File>>(
     rt: &F,
     alloc: Global,
-    path: &str,
+    keys: &str,
     makes: bool,
 ) -> Result<KeptCounters<FileDevice>, Because<Fault>>
     ensures unused { IfOk result (λ counters. (counter_of counters).next ≡ (counter_of counters).reserved) }
     ensures new { IsTrue makes → IfOk result (λ counters. counter_of counters ≡ record { next = 0; reserved = 0 }) }
     ensures faults { IfErr result (λ b. IsOfCounters makes b.error) }
 {
-    let Ok(path) = counter_path(alloc, path) else {
+    let Ok(path) = counter_path(alloc, keys) else {
         return Err(Because::from(Fault::OutOfMemory));
     };
     if makes {
@@ -106,7 +105,7 @@ pub fn kept_counters<F: Files<File = File> + Eprint>(
 }
 
 /// The counters of a file that is there.
-fn open<F: Files<File = File> + Eprint>(
+fn open<F: Files<File = File>>(
     rt: &F,
     alloc: Global,
     path: &str,
@@ -123,8 +122,7 @@ fn open<F: Files<File = File> + Eprint>(
         Ok(replacer) => replacer,
         Err(cause) => return Err(told(Fault::CounterFault, Name::Main, Some(cause))),
     };
-    let mut keeper = DroppedFile::new(rt, alloc, path);
-    match anew_on(alloc, device, &mut keeper, &mut replacer) {
+    match anew_on(alloc, device, &mut replacer) {
         Ok(counters) => Ok(counters),
         Err((fault, file, device)) => Err(told(fault, file, device.cause())),
     }
@@ -132,24 +130,22 @@ fn open<F: Files<File = File> + Eprint>(
 
 /// The counters of a device, once they are written anew: all that the device has then was written and synced since it was opened. A refusal
 /// has the fault, which file it is about, FILE or FILE.new, and the device.
-fn anew_on<D: JournalDevice + Drop, K: Keeper, R: Replacer<D>>(
+fn anew_on<D: JournalDevice + Drop, R: Replacer<D>>(
     alloc: Global,
     device: D,
-    keeper: &mut K,
     replacer: &mut R,
 ) -> Result<KeptCounters<D>, (Fault, Name, D)>
     ensures unused { IfOk result (λ counters. (counter_of counters).next ≡ (counter_of counters).reserved) }
-    ensures reserved { IsTrue (D.honest device) → IfOk result (λ counters. Reserves (D.contents device) (counter_of counters).reserved) }
+    ensures reserved { IsTrue (D.honest device) → IfOk result (λ counters. Tells (D.contents device) (counter_of counters).reserved) }
     ensures anew { IfOk result (λ counters. R.made replacer.new (device_of counters)) }
-
-    // What is cut off and reads as records, the keeper holds.
-    ensures dropped { IsTrue (D.honest device) → (rest : List ℕ) (count : ℕ) → Drops (D.contents device) rest count → 1 ≤ count
-        → OnOk result (K.holds keeper.new rest) }
     ensures faults { IfErr result (λ e. IsOfOldCounter e.0) }
 {
-    let mut counters = match KeptCounters::open(alloc, device, keeper) {
+    let mut counters = match KeptCounters::open(alloc, device, replacer) {
         Ok(counters) => counters,
-        Err((error, device)) => return Err((not_counted(error), Name::Main, device)),
+        Err((error, device)) => {
+            let (fault, file) = not_counted(error);
+            return Err((fault, file, device));
+        }
     };
     match counters.compact(alloc, replacer) {
         Ok(()) => Ok(counters),
@@ -160,12 +156,17 @@ fn anew_on<D: JournalDevice + Drop, K: Keeper, R: Replacer<D>>(
     }
 }
 
-/// The fault that the refusal of what a device has is.
-fn not_counted(error: CounterError) -> Fault
+/// The fault that says why the counters of a device weren't opened. It is about FILE, or about FILE.new, where that can't be made.
+fn not_counted(error: OpeningError) -> (Fault, Name)
     requires { IsOpeningRefusal error }
-    ensures { IsOfOldCounter result }
+    ensures counter { (why : CounterError) → error ≡ OpeningError.Counter why → result ≡ (fault_of_counter why, Main) }
+    ensures not_replaced { error ≡ OpeningError.NotReplaced → result ≡ (Fault.CounterFault, New) }
+    ensures faults { IsOfOldCounter result.0 }
 {
-    Fault::from(error)
+    match error {
+        OpeningError::Counter(error) => (Fault::from(error), Name::Main),
+        OpeningError::NotReplaced => (Fault::CounterFault, Name::New),
+    }
 }
 
 /// The fault that says why counters weren't written anew. It is about FILE, or about FILE.new, where that can't be made.

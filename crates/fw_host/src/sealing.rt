@@ -14,6 +14,7 @@ ghost use Rattle.fw_host.specs.Sealings.{
   IsOfHeadKeys,
   IsOfMeterKeys,
   LacksKey,
+  Shows,
   fault_of_key_file,
 };
 
@@ -28,13 +29,13 @@ use fw_rollout::Listed;
 use fw_sealport::{Links, Order};
 use std::alloc::{AllocError, Global};
 use std::fs::File;
-use std::net::SocketAddr;
+use std::net::{IpAddr, SocketAddr};
 use std::rt::Files;
 
 /// How the datagrams of a daemon are sealed.
 #[derive(Clone, Copy)]
 pub struct SealingOptions<'a> {
-    /// The path of its key file.
+    /// The path of its key file, beside which that of its counter is.
     pub keys: &'a str,
     /// Whether the file of its counter is to be made. Otherwise it is there.
     pub makes_counter: bool,
@@ -56,7 +57,8 @@ pub struct Sealing {
 ///
 /// # Errors
 ///
-/// - `KeysFault`, with its cause if that is known: the file can't be opened or read, is no regular file, or has more than 64 MiB.
+/// - `KeysFault`, with its cause if that is known: the file can't be opened or read, is a link or no regular file, has another name as well,
+///   or has more than 64 MiB.
 /// - `KeysReadable`: others than its owner may read or write it.
 /// - `BadKeys`: the first line with which it is no key file of this head end, and what is wrong with it.
 /// - `NoKey`: the first meter of the list that the file has no link with.
@@ -83,7 +85,8 @@ pub fn head_links<F: Files<File = File>>(
     }
 }
 
-/// The links of a meter with all head ends of its key file, each at the address that is its name there.
+/// The links of a meter that listens at `own` with all head ends of its key file, each at the address that it shows there: that is its name in
+/// the file, or at a socket of IPv6 the IPv4-mapped address of that.
 ///
 /// # Errors
 ///
@@ -92,8 +95,9 @@ pub fn meter_links<F: Files<File = File>>(
     rt: &F,
     alloc: Global,
     options: &SealingOptions<'_>,
+    own: SocketAddr,
 ) -> Result<Links, Because<Fault>>
-    ensures links { IfOk result (HasMeterLinks options.now.order) }
+    ensures links { IfOk result (HasMeterLinks own options.now.order) }
     ensures bad { IfErr result (λ b. (line : ℕ) (why : Why) → b.error ≡ Fault.BadKeys line why → (text : List ℕ) × NoMeterKeys text line why) }
     ensures faults { IfErr result (λ b. IsOfMeterKeys b.error) }
 {
@@ -101,7 +105,7 @@ pub fn meter_links<F: Files<File = File>>(
         Ok(file) => file,
         Err(because) => return Err(not_read(because)),
     };
-    match links_with_heads(alloc, &file, options.order) {
+    match links_with_heads(alloc, own, &file, options.order) {
         Ok(links) => Ok(links),
         Err(_) => Err(Because::from(Fault::OutOfMemory)),
     }
@@ -129,24 +133,38 @@ fn links_with_meters(
     Ok(links)
 }
 
-/// The links of a key file with all head ends that it has.
+/// The links of a key file with all head ends that it has, for a meter that listens at `own`.
 fn links_with_heads(
     alloc: Global,
+    own: SocketAddr,
     file: &KeyFile<SocketAddr>,
     order: Order,
 ) -> Result<Links, AllocError>
-    ensures { IfOk result (AreLinksOf order file.now (IsNamed file.now.entries)) }
+    ensures { IfOk result (AreLinksOf order file.now (IsNamed own file.now.entries)) }
 {
     let mut links = Links::new(alloc, order);
     for entry in file.entries() {
         let head = *entry.end();
         match file.link_with(&head) {
-            Some(link) => links.add(head, link)?,
+            Some(link) => links.add(shown_to(own, head), link)?,
             // The entry is one of the file's.
             None => unreachable!(),
         }
     }
     Ok(links)
+}
+
+/// The address that what comes from this end shows to a socket at `own`. To one of IPv6 an IPv4 end shows its IPv4-mapped address (RFC 4291,
+/// 2.5.5.2).
+fn shown_to(own: SocketAddr, end: SocketAddr) -> SocketAddr
+    ensures { Shows own end result }
+{
+    match (own, end) {
+        (SocketAddr::V6(_), SocketAddr::V4(v4)) => {
+            SocketAddr::new(IpAddr::V6(v4.ip().to_ipv6_mapped()), v4.port())
+        }
+        (SocketAddr::V4(_), _) | (_, SocketAddr::V6(_)) => end,
+    }
 }
 
 /// The fault that the refusal of a key file is, with its reason.

@@ -14,7 +14,7 @@ use thiserror::Error;
 /// Why keys aren't read, or aren't made.
 #[derive(Clone, Copy, Debug, Error)]
 pub enum KeyFileError {
-    /// The file can't be opened or read, or isn't a regular file, or has more than 64 MiB.
+    /// The file can't be opened or read, or is a link or no regular file, or has another name as well, or has more than 64 MiB.
     KeysFault,
     /// Others than its owner may read or write the file.
     KeysReadable,

@@ -20,7 +20,8 @@ use std::rt::Files;
 ///
 /// # Errors
 ///
-/// - `KeysFault`, with its cause if that is known: the file can't be opened or read, is no regular file, or has more than 64 MiB.
+/// - `KeysFault`, with its cause if that is known: the file can't be opened or read, is a link or no regular file, has another name as well,
+///   or has more than 64 MiB.
 /// - `KeysReadable`: others than its owner may read or write it.
 /// - `BadKeys`: the first line with which it is no key file, and what is wrong with it.
 /// - `OutOfMemory`.

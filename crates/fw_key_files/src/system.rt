@@ -1,15 +1,19 @@
 //! The files of the operating system that their owner alone may read and write.
 
-ghost use Rattle.std.specs.Prelude.{◌≡◌, ◌⊎◌, ◌++◌, Contains, IfErr, IfOk, MatchResult, OnOk, map};
+ghost use Rattle.std.specs.Prelude.{◌≡◌, ◌≢◌, ◌⊎◌, ◌++◌, ℕ, Contains, IfErr, IfOk, IsErrOf, IsTrue, MatchResult, OnOk, map};
 ghost use Rattle.std.specs.Io.KnownBytes.{Consumes, IsAtEnd};
+ghost use Rattle.std.specs.declared.fs.attrs.Metadata.{Metadata};
+ghost use Rattle.fw_disk.specs.Calls.{Stays};
 ghost use Rattle.fw_disk.specs.Causes.{IsOfSystem};
+ghost use Rattle.fw_disk.specs.Disk.{Goes, IsAlone, plain};
+ghost use Rattle.fw_disk.specs.declared.name.Name.TheVariants.{Main};
 ghost use Rattle.fw_key_files.specs.Making.{KeyText};
 ghost use Rattle.fw_key_files.specs.Refusals.{IsOfSystemFile, IsPrivate};
 ghost use Rattle.fw_key_files.specs.declared.error.KeyFileError.TheVariants.{KeysFault, KeysReadable, OutOfMemory};
 
 use crate::error::{KeyFileError, NotMade};
 use crate::new_file::NewFile;
-use fw_disk::{Because, Cause, Folder, Name, SystemFolder};
+use fw_disk::{Because, Cause, Folder, Found, Name, SystemFolder};
 use std::alloc::Global;
 use std::fs;
 use std::fs::{File, Metadata, OpenOptions};
@@ -37,11 +41,12 @@ fn fault(cause: Cause) -> Because<KeyFileError>
 }
 
 /// The bytes of the file at this path, if its owner alone may read and write it. What it may is that of the file which was opened, so no
-/// other can come in its place.
+/// other can come in its place. It has no other name, so that its counter, which stands beside it, is the only one of its keys.
 ///
 /// # Errors
 ///
-/// - `KeysFault`, with its cause: the file can't be opened or read, or is no regular file; without one where it has more than 64 MiB.
+/// - `KeysFault`, with its cause: the file can't be opened or read, or is a link or no regular file, or has another name as well; without one
+///   where it has more than 64 MiB.
 /// - `KeysReadable`: others may read or write it.
 /// - `OutOfMemory`.
 pub(crate) fn read_private<R: Files<File = File>>(
@@ -51,15 +56,84 @@ pub(crate) fn read_private<R: Files<File = File>>(
 ) -> Result<Vec<u8>, Because<KeyFileError>>
     ensures { IfErr result (λ b. IsOfSystemFile b.error) }
 {
-    let mut file = match File::open(rt, path) {
-        Ok(file) => file,
-        Err(error) => return Err(fault(Cause::from(error))),
-    };
-    match file.metadata() {
-        Ok(metadata) => check_private(&metadata)?,
-        Err(error) => return Err(fault(Cause::from(error))),
+    match opened(rt, path) {
+        Ok(mut file) => read_checked(alloc, &mut file),
+        Err(cause) => Err(fault(cause)),
     }
-    read_all(alloc, &mut file)
+}
+
+/// The file at this path, opened to be read, if it is a regular one that has no other name.
+fn opened<R: Files<File = File>>(rt: &R, path: &str) -> Result<File, Cause> {
+    let mut folder = SystemFolder::of(rt, path)?;
+    check_plain(&mut folder)?;
+    let file = File::open(rt, path)?;
+    check_alone(&mut folder, &file)?;
+    Ok(file)
+}
+
+/// Checks that FILE is there, and a regular file. It isn't opened for that: opening anything else may wait, or be heard by a device.
+fn check_plain<F: Folder>(folder: &mut F) -> Result<(), Cause>
+    ensures plain { IsTrue (F.seen folder.old).honest → OnOk result ((n : ℕ) × ((F.seen folder.old).disk.entry Main ≡ plain n)) }
+    ensures goes { Goes Stays (F.seen folder.old) (F.seen folder.new) }
+    ensures cause { IsTrue (F.seen folder.old).honest → IsErrOf result Cause.NotAlone
+        → (n : ℕ) → (F.seen folder.old).disk.entry Main ≢ plain n }
+{
+    match folder.look(Name::Main)? {
+        Found::Absent => Err(Cause::Missing),
+        Found::Plain => Ok(()),
+        Found::Other => Err(Cause::NotAlone),
+    }
+}
+
+/// Checks that FILE is the name of a file that was opened, and its only one.
+fn check_alone<F: Folder>(folder: &mut F, file: &F::File) -> Result<(), Cause>
+    ensures alone { IsTrue (F.seen folder.old).honest → OnOk result (IsAlone (F.seen folder.old).disk Main (F.number file.now)) }
+    ensures goes { Goes Stays (F.seen folder.old) (F.seen folder.new) }
+    ensures cause { IsTrue (F.seen folder.old).honest → IsErrOf result Cause.NotAlone
+        → ¬ IsAlone (F.seen folder.old).disk Main (F.number file.now) }
+{
+    if folder.is_alone(Name::Main, file)? {
+        Ok(())
+    } else {
+        Err(Cause::NotAlone)
+    }
+}
+
+/// A file that was opened, which shows what it is and who has a right to it.
+trait Shown: Read {
+    /// Whether it has shown these metadata.
+    ghost shows: { Self → Metadata → Type 0 };
+
+    /// Its metadata.
+    fn shown(&self) -> Result<Metadata, Cause>
+        ensures { IfOk result (shows self.now) };
+}
+
+// Nothing is known of what the system shows.
+impl Shown for File {
+    ghost shows = { λ _ _. Unit {0} };
+
+    fn shown(&self) -> Result<Metadata, Cause> {
+        Ok(self.metadata()?)
+    }
+}
+
+/// All bytes of a file, once it has shown that its owner alone may read and write it.
+///
+/// # Errors
+///
+/// As of [`read_private`].
+fn read_checked<F: Shown>(alloc: Global, file: &mut F) -> Result<Vec<u8>, Because<KeyFileError>>
+    ensures private { OnOk result ((metadata : Metadata) × F.shows file.old metadata × IsPrivate metadata) }
+    ensures all { IfOk result (λ text. Consumes (F.remaining file.old) (F.remaining file.new) text.items) }
+    ensures end { OnOk result (IsAtEnd (F.remaining file.new)) }
+    ensures faults { IfErr result (λ b. IsOfSystemFile b.error) }
+{
+    match file.shown() {
+        Ok(metadata) => check_private(&metadata)?,
+        Err(cause) => return Err(fault(cause)),
+    }
+    read_all(alloc, file)
 }
 
 /// Checks that a file is a regular one, and that nobody but its owner may do anything with it.

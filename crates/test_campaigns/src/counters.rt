@@ -1,8 +1,8 @@
 //! Counters of a sealer: which are given, also once a power cut was, and what is refused.
 
 use crate::subject::Subject;
-use fw_counter::{CounterError, KeptCounters};
-use fw_journal::{MemoryDevice, MemoryKeeper};
+use fw_counter::{KeptCounters, OpeningError};
+use fw_journal::{MemoryDevice, MemoryReplacer};
 use std::alloc::Global;
 use std::test::Fail;
 use test_tables::{Reads, Words, each_line};
@@ -11,6 +11,7 @@ use test_tables::{Reads, Words, each_line};
 ///
 /// - `take COUNT`: the last of so many that are taken
 /// - `cut`: they are opened again as a power cut leaves them
+/// - `turn OFFSET`: the same, once the byte at this place has become 0
 /// - `open BYTES`: why these bytes aren't opened
 impl Reads for Subject<KeptCounters<MemoryDevice>> {
     fn told(&mut self, alloc: Global, what: &str) -> Result<String, Fail> {
@@ -28,6 +29,15 @@ impl Reads for Subject<KeptCounters<MemoryDevice>> {
                 self.0 = opened(alloc, left)??;
                 Ok(String::new(alloc))
             }
+            "turn" => {
+                let mut left = self.0.device().disk().synced().to_vec(alloc)?;
+                match left.get_mut(words.number()? as usize) {
+                    Some(byte) => *byte = 0,
+                    None => return Err("no byte stands there".into()),
+                }
+                self.0 = opened(alloc, left)??;
+                Ok(String::new(alloc))
+            }
             "open" => match opened(alloc, hex::decode(alloc, words.rest())?)? {
                 Ok(_) => Err("these bytes are opened".into()),
                 Err(refusal) => Ok(refusal.to_string(alloc)?),
@@ -40,15 +50,16 @@ impl Reads for Subject<KeptCounters<MemoryDevice>> {
 fn opened(
     alloc: Global,
     bytes: Vec<u8>,
-) -> Result<Result<KeptCounters<MemoryDevice>, CounterError>, Fail> {
+) -> Result<Result<KeptCounters<MemoryDevice>, OpeningError>, Fail> {
     let device = MemoryDevice::new(alloc, bytes)?;
-    match KeptCounters::open(alloc, device, &mut MemoryKeeper::new(alloc)) {
+    match KeptCounters::open(alloc, device, &mut MemoryReplacer) {
         Ok(counters) => Ok(Ok(counters)),
         Err((refusal, _)) => Ok(Err(refusal)),
     }
 }
 
-/// After a cut the next one is the first of a new range of 65,536.
+/// After a cut the next one is the first of a new range of 65,536. Gates stand at 4, and 41 bytes further each. One that has turned ends the
+/// journal there, and the numbers behind it count all the same: of the last record, and of all.
 const GIVEN: &str = "
     take 1          => 0
     take 1          => 1
@@ -59,6 +70,10 @@ const GIVEN: &str = "
     cut             =>
     cut             =>
     take 1          => 196608
+    turn 127        =>
+    take 1          => 262144
+    turn 4          =>
+    take 1          => 327680
     open            => NoCounter
     open 46574a3201 => NoCounter
 ";

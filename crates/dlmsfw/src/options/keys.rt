@@ -20,7 +20,8 @@ owner may read or write the files, and no file is written over: new keys go into
 can't be made, those that were made before it are removed.
 
 A file is brought to its end where nobody else can read it, and is no longer needed here: who has the keys
-of a link can do what either end can. An end that has no counter yet is begun with --new-counter.
+of a link can do what either end can. Its end makes FILE.counter beside it, by --new-counter at its first
+start, and has to be able to write there.
 
 LIST is read as `head` reads it. The meters take datagrams of this head end from the address of --listen
 alone, so that is the one that they see.

@@ -39,18 +39,17 @@ AES-128-GCM, as security suite 0 of IEC 62056-5-3 has it. A datagram that isn't,
 dropped, and so is one that came already. The first line of KEYS is the meter's system title in 16
 hexadecimal digits. Each other line is that of a link with a head end: its address, its system title, and
 the encryption key and the authentication key in 32 hexadecimal digits each, as
-`127.0.0.1:4058,4b5a424800000007,KEY,AUTHENTICATION`. At [::] an IPv4 address stands there as the one that
-comes then, [::ffff:127.0.0.1]:4058. Only its owner may read KEYS. `keys --help` has how such files are made.
+`127.0.0.1:4058,4b5a424800000007,KEY,AUTHENTICATION`. At [::] an IPv4 head end is heard too. Only its owner
+may read KEYS, which is no link and has no second name. `keys --help` has how such files are made.
 
-What is sent with a key has a number, and none may be used twice. FILE.counter keeps which are used, and
---new-counter makes it: for keys that were never used. A FILE.counter that was copied back, or made anew
-for keys that were used, gives them away; where it is lost, the meter needs new keys. A new FILE goes on
-with the FILE.counter that is there. A record that a kill left behind its end is kept in
-FILE.counter.dropped, which costs nothing, and standard error says so. A datagram is taken that less than
-64 later ones overtook; with --strict none is.
+What is sent with a key has a number, and none may be used twice. KEYS.counter keeps which are used, and
+--new-counter makes it: for keys that were never used, and not for each new FILE. One process at a time has
+it. A KEYS.counter that was copied back, or made anew for keys that were used, gives them away, and so does
+a copy of KEYS; where it is lost, the meter needs new keys. Where KEYS is renamed, it is renamed too. A
+datagram is taken that less than 64 later ones overtook; with --strict none is.
 
-A file is made once all is judged: each address, KEYS, each FILE that is there, FILE.counter, and what a
-new meter is made with. CAPTURE comes first then, a new FILE.counter next, and each new FILE last. With
+A file is made once all is judged: each address, KEYS, each FILE that is there, KEYS.counter, and what a
+new meter is made with. CAPTURE comes first then, a new KEYS.counter next, and each new FILE last. With
 --keys CAPTURE has what was on the wire, sealed.
 
 With --capture CAPTURE all that is received and sent is appended to CAPTURE as pcap, which Wireshark and
@@ -95,7 +94,7 @@ Exit status:
      the address of the first meter stands `, meter K`. If the cause is known, the second line goes on
      with `: ` and the cause, and before it the name of the file that is meant, if that is the one
      beside FILE or CAPTURE: `--store FILE: FILE.new: it is another program's file`. So has
-     FILE.counter: `--store FILE: FILE.counter: there is no such file or folder`
+     KEYS.counter: `--keys KEYS: KEYS.counter: there is no such file or folder`
        Socket        datagrams can't be received at --listen: it is in use, this machine has no such
                      address, there is no such port, this user has no right to it, or a process may not
                      have that number of open files; no file was made. Or the socket failed 1000 times
@@ -112,20 +111,21 @@ Exit status:
        BadHeader     FILE has no header that a meter writes: its bytes were changed
        BadImage      an image in FILE, which runs or is verified, hasn't the digest of its name: its
                      bytes were changed
-       KeysFault     KEYS can't be opened or read: it isn't there, it is a folder, or this user has no
-                     right to it
+       KeysFault     KEYS can't be opened or read: it isn't there, it is a folder or a link or has a
+                     second name, or this user has no right to it
        KeysReadable  others than its owner have a right to KEYS: `chmod 600 KEYS` takes it away
        BadKeys L CAUSE
                      line L of KEYS, counted from 1, is none of it: BadTitle (the first has no title),
                      BadFields, BadName (no address with a port), TitlesEqual (the other end has the
                      title of this one), KeyTwice or NameTwice (an earlier line has it)
-       NoCounter     FILE.counter isn't there, and --new-counter isn't given. Where it is lost, both ends
-                     need new keys; where FILE was renamed, it is renamed too
-       CounterExists FILE.counter is there, and --new-counter is given: the meter goes on without that
-                     option. FILE.counter isn't removed while its keys are used
-       CounterLocked another process has FILE.counter
-       CounterFault  FILE.counter can't be made, opened or read, or holds no numbers: its bytes were
-                     changed; no new FILE was made. Or it can't be written later, without a cause
+       NoCounter     KEYS.counter isn't there, and --new-counter isn't given. Where it is lost, both ends
+                     need new keys; where KEYS was renamed, it is renamed too
+       CounterExists KEYS.counter is there, and --new-counter is given: the meter goes on without that
+                     option. KEYS.counter isn't removed while its keys are used
+       CounterLocked another process has KEYS.counter: no two seal with one KEYS
+       CounterFault  KEYS.counter can't be made, opened or read, as where this user may not write beside
+                     KEYS, or holds no numbers: its bytes were changed; no new FILE was made. Or it can't
+                     be written later, without a cause
        CounterSpent  all 4294967295 numbers are used: the meter needs new keys
        FactoryFault  FILE isn't there, and the file of --factory-file can't be read: it isn't there
                      either, it is a folder, or this user has no right to it
