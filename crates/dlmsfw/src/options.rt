@@ -77,6 +77,27 @@ impl<'a, T: Drop> From<AllocFailed<T>> for WrongValue<'a> {
     }
 }
 
+impl WrongValue<'_> {
+    /// What the user reads of it.
+    fn message(self, alloc: Global) -> Result<String, AllocError> {
+        match self {
+            WrongValue::NoAddress { option, text } => format!(in alloc;
+                "invalid value '{text}' for '--{option} <ADDR:PORT>': it is no address with a port, as 127.0.0.1:4059 or [::1]:4059"
+            ),
+            WrongValue::OtherFamily { option, text } => format!(in alloc;
+                "invalid value '{text}' for '--{option} <ADDR:PORT>': nothing comes from there to the address of '--listen <ADDR:PORT>', which is of the other family, IPv4 or IPv6"
+            ),
+            WrongValue::NotSeen { option, text } => format!(in alloc;
+                "invalid value '{text}' for '--{option} <ADDR:PORT>': no meter sees a datagram come from there; it is to be the address of one host with its port"
+            ),
+            WrongValue::NoSerial { option, text } => format!(in alloc;
+                "invalid value '{text}' for '--{option} <SERIAL>': it is no number from 1 to 4294967295"
+            ),
+            WrongValue::OutOfMemory => Err(AllocError),
+        }
+    }
+}
+
 /// What ends a short help.
 const STATUSES: &str = "\
 Exit status:
@@ -102,36 +123,15 @@ Exit status:
 ///
 /// The parser has found all that a command must have, within its range. Otherwise this would be a wrong command line.
 pub(crate) fn parse<'a>(alloc: Global, words: &'a [String]) -> Result<Invocation<'a>, Error> {
-    let mut command = dlmsfw(alloc)?;
-    let matches = command.try_get_matches_from_mut(words)?;
+    let mut program = dlmsfw(alloc)?;
+    let matches = program.try_get_matches_from_mut(words)?;
     match found(alloc, &matches) {
         Ok(Some(invocation)) => Ok(invocation),
-        Ok(None) => Err(command.error(ErrorKind::MissingSubcommand, "no command was given")?),
-        Err(WrongValue::NoAddress { option, text }) => {
-            let message = format!(in alloc;
-                "invalid value '{text}' for '--{option} <ADDR:PORT>': it is no address with a port, as 127.0.0.1:4059 or [::1]:4059"
-            )?;
-            Err(command.error(ErrorKind::ValueValidation, &message)?)
+        Ok(None) => Err(program.error(ErrorKind::MissingSubcommand, "no command was given")?),
+        Err(wrong) => {
+            let message = wrong.message(alloc)?;
+            Err(program.error(ErrorKind::ValueValidation, &message)?)
         }
-        Err(WrongValue::OtherFamily { option, text }) => {
-            let message = format!(in alloc;
-                "invalid value '{text}' for '--{option} <ADDR:PORT>': nothing comes from there to the address of '--listen <ADDR:PORT>', which is of the other family, IPv4 or IPv6"
-            )?;
-            Err(command.error(ErrorKind::ValueValidation, &message)?)
-        }
-        Err(WrongValue::NotSeen { option, text }) => {
-            let message = format!(in alloc;
-                "invalid value '{text}' for '--{option} <ADDR:PORT>': no meter sees a datagram come from there; it is to be the address of one host with its port"
-            )?;
-            Err(command.error(ErrorKind::ValueValidation, &message)?)
-        }
-        Err(WrongValue::NoSerial { option, text }) => {
-            let message = format!(in alloc;
-                "invalid value '{text}' for '--{option} <SERIAL>': it is no number from 1 to 4294967295"
-            )?;
-            Err(command.error(ErrorKind::ValueValidation, &message)?)
-        }
-        Err(WrongValue::OutOfMemory) => Err(Error::from(AllocError)),
     }
 }
 
@@ -166,7 +166,7 @@ fn invoked<'a>(name: &str, given: &ArgMatches<'a>) -> Option<Invocation<'a>> {
 
 /// The program with its commands.
 fn dlmsfw<'a>(alloc: Global) -> Result<Command<'a>, AllocError> {
-    Command::new(alloc, "dlmsfw")
+    let program = Command::new(alloc, "dlmsfw")
         .bin_name("dlmsfw")?
         .version("0.1.0")
         .propagate_version(true)
@@ -174,18 +174,26 @@ fn dlmsfw<'a>(alloc: Global) -> Result<Command<'a>, AllocError> {
             "COSEM firmware distribution: meters that answer datagrams, head ends, names of images, scripts of campaigns, and captures",
         )
         .after_help(ENDINGS)
-        .subcommand_required(true)
-        .subcommand(answer::command(alloc)?)?
-        .subcommand(name::command(alloc)?)?
-        .subcommand(replay::command(alloc)?)?
-        .subcommand(rehearse::command(alloc)?)?
-        .subcommand(live::command(alloc)?)?
-        .subcommand(meter::command(alloc)?)?
-        .subcommand(head::command(alloc)?)?
-        .subcommand(cancel::command(alloc)?)?
-        .subcommand(keys::command(alloc)?)?
-        .subcommand(status::command(alloc)?)?
-        .subcommand(trace::command(alloc)?)
+        .subcommand_required(true);
+    let program = with(program, answer::command(alloc))?;
+    let program = with(program, name::command(alloc))?;
+    let program = with(program, replay::command(alloc))?;
+    let program = with(program, rehearse::command(alloc))?;
+    let program = with(program, live::command(alloc))?;
+    let program = with(program, meter::command(alloc))?;
+    let program = with(program, head::command(alloc))?;
+    let program = with(program, cancel::command(alloc))?;
+    let program = with(program, keys::command(alloc))?;
+    let program = with(program, status::command(alloc))?;
+    with(program, trace::command(alloc))
+}
+
+/// The program with one command more, which was made if memory wasn't refused. So this alone lets go of a program without it.
+fn with<'a>(
+    program: Command<'a>,
+    made: Result<Command<'a>, AllocError>,
+) -> Result<Command<'a>, AllocError> {
+    program.subcommand(made?)
 }
 
 /// The option that asks for a trace.
@@ -233,7 +241,7 @@ const NEW_COUNTER: CommandOption = CommandOption {
     name: "new-counter",
     takes: Takes::Nothing,
     presence: Presence::With("keys"),
-    help: "Makes FILE.counter, where no file is there: for keys that were never used",
+    help: "Makes KEYS.counter, where no file is there: for keys that were never used",
 };
 
 /// The option that lets no datagram be overtaken.
