@@ -4,7 +4,6 @@ The folder of such a crate has `crate.txt`, its line of crates.txt, and `src`, i
 crate. The gate refuses a `.rt` file outside `crates/`, and takes each crate there.
 """
 
-import os
 import pathlib
 import shutil
 import subprocess
@@ -14,12 +13,14 @@ import tempfile
 ROOT = pathlib.Path(__file__).resolve().parent.parent
 
 
-def link(source, to):
-    """Gives a file a second name, or copies it where the disk can't do that."""
-    try:
-        os.link(source, to)
-    except OSError:
-        shutil.copyfile(source, to)
+def name_of(line):
+    """The name in a line of crates.txt."""
+    return line.split(":")[0].split()[0]
+
+
+def uses_of(line):
+    """The libraries in a line of crates.txt."""
+    return line.split(":")[1].split()
 
 
 class TextCrate:
@@ -28,46 +29,54 @@ class TextCrate:
     def __init__(self, folder):
         self.folder = folder
         self.line = (folder / "crate.txt").read_text()
-        self.name = self.line.split(":")[0].split()[0]
+        self.name = name_of(self.line)
         self.sources = sorted(folder.glob("src/*.rt.txt"))
         self.program = folder.parent / "out" / f"{self.name}_tests"
 
     def build(self):
         """Proves and builds the program, and runs its tests, if that was not done since a source changed.
 
-        The libraries are built in the checkout, where they are kept. The crate itself is in a copy of the crates, which is removed.
+        `rt ci` does it in a copy, which is removed. Of the crates below it takes what it proved on this machine before, as in the gate.
         """
         made_from = [ROOT / "crates.txt", self.folder / "crate.txt", *self.sources, *ROOT.glob("crates/*/src/**/*.rt")]
         if self.program.exists() and self.program.stat().st_mtime > max(source.stat().st_mtime for source in made_from):
             return
-        for name in self.line.split(":")[1].split():
-            if (ROOT / "crates" / name).is_dir():
-                self._rt("lib", ROOT / "crates" / name)
         with tempfile.TemporaryDirectory() as copy:
             crate = self._copied(pathlib.Path(copy))
-            self._rt("test", crate)
+            self._prove(copy)
             self.program.parent.mkdir(exist_ok=True)
             shutil.copy(crate / "out" / self.program.name, self.program)
 
-    def _rt(self, word, place):
-        """Runs a command of rt in the place of a crate. Where it fails, what it printed is shown, and all ends."""
+    def _prove(self, copy):
+        """Proves all crates of a copy. Where that fails, what was printed is shown, and all ends."""
         how = {"stdin": subprocess.DEVNULL, "stdout": subprocess.PIPE, "stderr": subprocess.STDOUT}
-        done = subprocess.run(["rt", word], cwd=place, text=True, **how)
+        done = subprocess.run(["rt", "ci"], cwd=copy, text=True, **how)
         if done.returncode != 0:
-            sys.exit(f"{done.stdout}{self.folder.parent.name}: rt {word} of {place.name} failed")
+            sys.exit(f"{done.stdout}{self.folder.parent.name}: rt ci of {self.name} failed")
+
+    def _below(self):
+        """The crates of this repository that it stands on: the line of crates.txt of each, by its name."""
+        lines = {name_of(line): line for line in (ROOT / "crates.txt").read_text().splitlines() if ":" in line and line[0] != "#"}
+        below, names = {}, uses_of(self.line)
+        while names:
+            name = names.pop()
+            if name in lines and name not in below:
+                below[name] = lines[name]
+                names += uses_of(lines[name])
+        return below
 
     def _copied(self, to):
-        """Copies crates.txt and the crates, each with its library as it was built, and adds this crate. Gives its place."""
-        for crate in (ROOT / "crates").iterdir():
+        """Makes a repository of this crate and those below it, and gives the place of this one."""
+        below = self._below()
+        for name in below:
             for part in ("src", "specs", "proofs"):
-                if (crate / part).is_dir():
-                    shutil.copytree(crate / part, to / "crates" / crate.name / part)
-            # rt makes such a file anew, and never writes into it.
-            if (crate / "out" / "rlib").is_dir():
-                shutil.copytree(crate / "out" / "rlib", to / "crates" / crate.name / "out" / "rlib", copy_function=link)
+                if (ROOT / "crates" / name / part).is_dir():
+                    shutil.copytree(ROOT / "crates" / name / part, to / "crates" / name / part)
         place = to / "crates" / self.name
         (place / "src").mkdir(parents=True)
         for source in self.sources:
             shutil.copyfile(source, place / "src" / source.stem)
-        (to / "crates.txt").write_text((ROOT / "crates.txt").read_text() + self.line)
+        (to / ".git").mkdir()
+        shutil.copy(ROOT / "HANDLES", to)
+        (to / "crates.txt").write_text("\n".join([*below.values(), self.line]))
         return place

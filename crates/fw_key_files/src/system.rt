@@ -184,13 +184,12 @@ fn put(text: &mut Vec<u8>, bytes: &[u8]) -> Result<(), KeyFileError>
     Ok(())
 }
 
-/// Makes these files, which their owner alone may read and write from the start. Each has its whole text, and a power cut leaves them. No
-/// file is written over.
+/// Makes these files of one folder, which their owner alone may read and write from the start. Each has its whole text, and a power cut leaves
+/// them. No file is written over.
 ///
 /// # Errors
 ///
-/// The first file that can't be made, and why: `Exists` if another file has its path, which is left as it is. Those that were made before it
-/// are removed.
+/// The first file that can't be made, and why: `Exists` if another file has its path, which is left as it is. Those that were made are removed.
 pub fn make_files<R: Files<File = File>>(rt: &R, files: &[NewFile]) -> Result<(), NotMade>
     // Of the system's files nothing is known.
     ensures { IfErr result (λ n. Contains (map (λ (file : KeyText). file.owner) files.now) n.owner) }
@@ -205,17 +204,27 @@ pub fn make_files<R: Files<File = File>>(rt: &R, files: &[NewFile]) -> Result<()
             });
         }
     }
+    let Some(first) = files.first() else {
+        return Ok(());
+    };
+    if let Err(cause) = sync_folder(rt, first) {
+        remove(rt, files);
+        return Err(NotMade {
+            owner: first.owner(),
+            cause,
+        });
+    }
     Ok(())
 }
 
-/// Makes a file. If that fails once it was there, it is removed.
+/// Makes a file. If that fails once it was there, it is removed. Its name is synced with its folder.
 fn make<R: Files<File = File>>(rt: &R, new: &NewFile) -> Result<(), Cause>
     ensures { IfErr result IsOfSystem }
 {
     let mut options = OpenOptions::new();
     options.write(true).create_new(true).mode(OWNER_ALONE);
     let mut file = options.open(rt, new.path())?;
-    match fill(rt, &mut file, new) {
+    match fill(&mut file, new) {
         Ok(()) => Ok(()),
         Err(cause) => {
             let _ = fs::remove_file(rt, new.path());
@@ -224,13 +233,19 @@ fn make<R: Files<File = File>>(rt: &R, new: &NewFile) -> Result<(), Cause>
     }
 }
 
-/// Gives a file its text, and syncs it and its folder.
-fn fill<R: Files<File = File>>(rt: &R, file: &mut File, new: &NewFile) -> Result<(), Cause>
+/// Gives a file its text, and syncs it.
+fn fill(file: &mut File, new: &NewFile) -> Result<(), Cause>
     ensures { IfErr result IsOfSystem }
 {
     file.write_all(new.text())?;
-    file.sync_all()?;
-    SystemFolder::of(rt, new.path())?.sync_folder()
+    Ok(file.sync_all()?)
+}
+
+/// Syncs the folder of a file.
+fn sync_folder<R: Files<File = File>>(rt: &R, file: &NewFile) -> Result<(), Cause>
+    ensures { IfErr result IsOfSystem }
+{
+    SystemFolder::of(rt, file.path())?.sync_folder()
 }
 
 /// Removes these files again.

@@ -1,6 +1,6 @@
 //! What a key file says.
 
-ghost use Rattle.std.specs.Prelude.{◌≡◌, ◌++◌, ◌∷◌, [], Contains, length, MatchBool, MatchOption, MatchResult, OnErr, OnOk};
+ghost use Rattle.std.specs.Prelude.{◌≡◌, ◌≢◌, ◌++◌, ◌∷◌, [], Contains, length, MatchBool, MatchOption, MatchResult, OnErr, OnOk};
 ghost use Rattle.fw_keys.specs.declared.entry.Entry.{Entry};
 ghost use Rattle.fw_keys.specs.Links.{AreLinks, HasKey, HasNoEnd, HasNoKey, IsNew, ends_of};
 ghost use Rattle.fw_keys.specs.Refusals.{IsOld};
@@ -127,9 +127,16 @@ fn has_key<N>(entries: &[Entry<N>], key: &[u8; KEY_SIZE]) -> bool
     ensures { MatchBool result (HasKey entries.now key.now) (HasNoKey entries.now key.now) }
 {
     for entry in entries {
-        if entry.keys.encryption == *key {
+        if is_same(&entry.keys.encryption, key) {
             return true;
         }
     }
     false
+}
+
+/// Whether two keys are the same. Most differ in their first byte, and to compare whole arrays takes far longer.
+fn is_same(key: &[u8; KEY_SIZE], other: &[u8; KEY_SIZE]) -> bool
+    ensures { MatchBool result (key.now ≡ other.now) (key.now ≢ other.now) }
+{
+    key[0] == other[0] && *key == *other
 }

@@ -1,4 +1,5 @@
 pub mod ContentFacts
+pub mod FormFacts
 pub mod FrameFacts
 pub mod OpeningFacts
 pub mod SealingFacts

@@ -105,3 +105,7 @@ pub record HasForm (bytes : List ℕ) : Type 0 where
   pub text : List ℕ
   pub mac : List ℕ
   pub filled : IsContent counter text mac content
+
+-- the same, with this counter
+abbrev pub HasCounter : List ℕ → ℕ → Type 0
+HasCounter bytes counter = (form : HasForm bytes) × (form.counter ≡ counter)

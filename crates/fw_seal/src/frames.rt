@@ -1,8 +1,8 @@
 //! Frames, which are a tag, a length and a content, and the parts of a content.
 
-ghost use Rattle.std.specs.Prelude.{◌≡◌, ◌≤◌, ◌∷◌, ◌++◌, length, OnOk, IfSome, IfNone};
+ghost use Rattle.std.specs.Prelude.{◌≡◌, ◌≤◌, ◌∷◌, ◌++◌, length, OnOk, IfSome, IfNone, MatchOption};
 ghost use Rattle.fw_axdr.specs.Spelling.{short_length};
-ghost use Rattle.fw_seal.specs.Sealing.{IsContent, IsFrame, NoContent, NoFrame};
+ghost use Rattle.fw_seal.specs.Sealing.{HasCounter, HasForm, IsContent, IsFrame, NoContent, NoFrame};
 
 use fw_aes::TAG_SIZE;
 use fw_reader::Reader;
@@ -66,6 +66,19 @@ pub(crate) fn parts_of(bytes: &[u8]) -> Option<Parts<'_>>
     };
     let counter = u32::from_be_bytes([*c3, *c2, *c1, *c0]);
     Some(Parts { counter, text, mac })
+}
+
+/// The invocation counter of bytes that have the form of a sealing, under whatever keys. It is only a claim until they are opened.
+pub fn shown_counter(bytes: &[u8]) -> Option<u32>
+    ensures { MatchOption result (¬ HasForm bytes.now) (HasCounter bytes.now) }
+{
+    let Some((_, content)) = frame(bytes) else {
+        return None;
+    };
+    let Some(parts) = parts_of(content) else {
+        return None;
+    };
+    Some(parts.counter)
 }
 
 /// Appends a tag, and a length in its shortest form.

@@ -14,4 +14,5 @@ mod service;
 
 pub use counters::Counters;
 pub use error::{OpenError, SealError};
+pub use frames::shown_counter;
 pub use link::{Link, Opened, TITLE_SIZE};

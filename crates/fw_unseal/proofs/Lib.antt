@@ -1,3 +1,2 @@
 mod Opened
 mod BothEnds
-mod Forms

@@ -3,9 +3,9 @@ use Rattle.std.proofs.Common.{◌≡◌, ℕ, ◌+◌, ◌<◌, ◌≤◌, List,
 use Rattle.std.proofs.lemmas.List.{take_all}
 use Rattle.std.proofs.lemmas.List.Elements.{All-contains, All-more}
 use Rattle.fw_wrapper.specs.Wrapper.{Wraps, max_apdu, wrapped}
-use Rattle.fw_seal.specs.Sealing.{Ends, HasForm, IsSealing, Keys, NoSealing, content_of}
+use Rattle.fw_seal.specs.Sealing.{Ends, HasCounter, HasForm, IsSealing, Keys, NoSealing, content_of}
 use Rattle.fw_seal.proofs.ContentFacts.{length-content_of}
-use Rattle.fw_unseal.specs.Unsealing.{HasCounter, LooksPlain, LooksSealed, OpensNot, OpensTo}
+use Rattle.fw_unseal.specs.Unsealing.{LooksPlain, LooksSealed, OpensNot, OpensTo}
 
 tagged_length : (tag : ℕ) (len content : List ℕ) → length (tag ∷ len ++ content) ≡ 1 + length len + length content
 tagged_length tag len content = omega (arith, length-append len content)

@@ -1,7 +1,7 @@
 -- Public vocabulary: what datagrams are under links, whoever of their ends sealed them.
 use Rattle.std.specs.Prelude.{◌≡◌, ℕ, List, [], ◌∷◌, Contains, flat_map}
 use Rattle.fw_wrapper.specs.Wrapper.{Wraps, wrapped}
-use Rattle.fw_seal.specs.Sealing.{Ends, HasForm, IsSealing}
+use Rattle.fw_seal.specs.Sealing.{Ends, HasCounter, IsSealing}
 use Rattle.fw_keys.specs.declared.entry.Entry.{Entry}
 use Rattle.fw_keys.specs.Links.{ends_of}
 
@@ -34,11 +34,7 @@ pub record OpensTo (links : List Ends) (wire : List ℕ) (counter : ℕ) (plain 
 abbrev pub OpensNot : List Ends → List ℕ → Type 0
 OpensNot links wire = (counter : ℕ) (plain : List ℕ) → ¬ OpensTo links wire counter plain
 
--- bytes that have the form of a sealing, under whatever keys, with this counter
-abbrev pub HasCounter : List ℕ → ℕ → Type 0
-HasCounter bytes counter = (form : HasForm bytes) × (form.counter ≡ counter)
-
--- a datagram carries such bytes
+-- a datagram carries bytes that have the form of a sealing, under whatever keys, with this counter
 pub record LooksSealed (wire : List ℕ) (counter : ℕ) : Type 0 where
   pub source : ℕ
   pub dest : ℕ

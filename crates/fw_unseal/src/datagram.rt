@@ -5,8 +5,7 @@ ghost use Rattle.fw_seal.specs.Sealing.{Ends, IsSealing, NoSealing};
 ghost use Rattle.fw_wrapper.specs.Wrapper.{max_apdu, wrapped};
 ghost use Rattle.fw_unseal.specs.Unsealing.{LooksPlain, LooksSealed, OpensNot, OpensTo};
 
-use crate::form::shown_counter;
-use fw_seal::{Link, OpenError, Opened};
+use fw_seal::{Link, OpenError, Opened, shown_counter};
 use fw_wrapper::{join_in, split};
 use std::alloc::{AllocError, Global};
 

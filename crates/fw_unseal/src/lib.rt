@@ -6,7 +6,6 @@
 
 mod datagram;
 mod ends;
-mod form;
 
 pub use datagram::{Unsealed, counter_of, unseal};
 pub use ends::both_ends;

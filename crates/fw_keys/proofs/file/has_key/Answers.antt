@@ -3,8 +3,8 @@ use Rattle.std.specs.Prelude.{◌≢◌}
 use Rattle.fw_keys.proofs.Listed.{all_more, all_of, is_in, one_is}
 use Rattle.fw_keys.proofs.file.has_key.Goals as goal
 
-pub returns-then-eq : goal.returns-then-eq
-returns-then-eq g c =
+pub returns-then-is_same : goal.returns-then-is_same
+returns-then-is_same g c =
     let entries = c.args.entries.now in
     let entry = c.entry-item.result in
     let inside : c.loop-entry.entry-index < length entries = omega (arith, c.loop-entry-test.true) in

@@ -1,6 +1,6 @@
 use Rattle.std.proofs.Common.{refl}
-use Rattle.fw_unseal.proofs.Forms.{no_content, no_form}
-use Rattle.fw_unseal.proofs.form.shown_counter.Goals as goal
+use Rattle.fw_seal.proofs.FormFacts.{no_content, no_form}
+use Rattle.fw_seal.proofs.frames.shown_counter.Goals as goal
 
 pub returns-in_default : goal.returns-in_default
 returns-in_default c = no_form c.args.bytes.now c.in_default.ensures.none
