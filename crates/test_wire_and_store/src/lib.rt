@@ -1,9 +1,9 @@
 //! Tests of what goes over the wire (numbers and lengths, A-XDR Data, the wrapper, the services, image names, captures, AES-128 and GCM,
-//! sealed APDUs), of the blocks of an image, of the header of a store, of stores in memory, on devices and in files, of files of a folder
-//! in memory, of journals, of the digest of a slot, of Image transfer over a store in memory, and of what a meter makes of requests and how
-//! it spells answers, through their public calls alone, and callers that are proved from the public contracts alone. Expected bytes are
-//! worked out by hand from the standards and the formats, or are those of the standards' examples, and SHA-256 values are the published
-//! ones or those of `sha256sum`.
+//! sealed APDUs), of the blocks of an image, of the header of a store, of header writes that are cut, of stores in memory, on devices and
+//! in files, of files of a folder in memory, of journals, of the digest of a slot, of Image transfer over a store in memory, and of what a
+//! meter makes of requests and how it spells answers, through their public calls alone, and callers that are proved from the public
+//! contracts alone. Expected bytes are worked out by hand from the standards and the formats, or are those of the standards' examples, and
+//! SHA-256 values are the published ones or those of `sha256sum`.
 #![tactic(auto)]
 
 #[cfg(test)]
@@ -28,6 +28,8 @@ mod cuts;
 mod devices;
 #[cfg(test)]
 mod digests;
+#[cfg(test)]
+mod failing_files;
 #[cfg(test)]
 mod faults;
 #[cfg(test)]
@@ -66,6 +68,8 @@ mod slices;
 mod support;
 #[cfg(test)]
 mod test_device;
+#[cfg(test)]
+mod torn_headers;
 #[cfg(test)]
 mod transfers;
 #[cfg(test)]

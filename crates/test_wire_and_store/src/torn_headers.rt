@@ -1,6 +1,6 @@
 //! Header writes, openings and writes into a slot.
 
-use crate::failing::FailingFiles;
+use crate::failing_files::FailingFiles;
 use fw_cuts::{
     FilesFault, Part, Scratch, StoreFiles, recover, replace, settle, take_back, write_slot,
 };
