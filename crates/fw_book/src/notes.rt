@@ -12,17 +12,17 @@ use std::marker::Model;
 /// The places of a campaign: the number of a meter has four bytes.
 const PLACES: u64 = 4_294_967_296;
 
-/// Why a row failed: its meter gave this answer in this phase. In `Size`, `Enable` and `Start` such an answer ends the row. In each
-/// later phase it makes the row return to `Start`, and the last return ends it.
+/// Why a row failed: this ended it in this phase. In `Size`, `Enable` and `Start` an answer that doesn't fit ends the row. In each
+/// later phase it makes the row return to `Start`, and the last return ends it. In any phase a row that no answer ended is given up.
 #[derive(Clone, Copy, Debug)]
 pub struct Reason {
     /// The phase in which the row was.
     pub phase: Phase,
-    /// What the meter answered.
+    /// What ended the row: what the meter answered, or that no answer did.
     pub answer: Answer,
 }
 
-/// What is kept of a meter's answer (IEC 62056-6-2, Image transfer; IEC 62056-5-3).
+/// What ended a row: an answer, of which this is kept (IEC 62056-6-2, Image transfer; IEC 62056-5-3), or none.
 #[derive(Clone, Copy, Debug)]
 pub enum Answer {
     /// image_block_size, or image_first_not_transferred_block_number.
@@ -38,6 +38,10 @@ pub enum Answer {
     Active(CampaignId),
     /// A Data-Access-Result or an Action-Result: 0 for success.
     Code(u8),
+    /// No answer: nothing was heard of the meter for as long as the plan allows.
+    Silent,
+    /// No answer: an operator gave the row up.
+    GivenUp,
 }
 
 /// How a row ended.

@@ -9,7 +9,7 @@ use Rattle.fw_rollout.specs.declared.ended.Ended.{Ended}
 use Rattle.fw_world.specs.Step.{replies}
 use Rattle.fw_world.specs.World.{Datagram}
 use Rattle.fw_field.specs.Field.{Field}
-use Rattle.fw_field.specs.Moves.{Move, round, kill_meter, step, open_campaign, cancel_campaign, kill_head, MovesLead, Goes, to_meter, to_head}
+use Rattle.fw_field.specs.Moves.{Move, round, kill_meter, step, open_campaign, cancel_campaign, give_up, kill_head, MovesLead, Goes, to_meter, to_head}
 use Rattle.fw_field.specs.Laws.{AfterMoves, AnswersCome, LeadingIsMoves, ReportsAreTrue, SentComes, SentStays, ToldIsTrue, moves_of}
 use Rattle.fw_field.proofs.Serving.{first_is, later, none_there, one_there}
 
@@ -29,6 +29,7 @@ stays_by addresses old new (kill_meter number) d (inr k) has = same_sent old new
 stays_by addresses old new (step number made) d t has = more_sent old new d t.out (ap (λ (f : Field). f.sent) t.new_is) has
 stays_by addresses old new (open_campaign campaign release image meters) d t has = same_sent old new d (ap (λ (f : Field). f.sent) t.new_is) has
 stays_by addresses old new (cancel_campaign campaign) d t has = same_sent old new d (ap (λ (f : Field). f.sent) t.new_is) has
+stays_by addresses old new (give_up number meter) d t has = same_sent old new d (ap (λ (f : Field). f.sent) t.new_is) has
 stays_by addresses old new (kill_head number) d t has = same_sent old new d (ap (λ (f : Field). f.sent) t.new_is) has
 
 stays : (addresses : ℕ → List SocketAddr) (f new : Field) (moves : List Move) (d : Datagram) → MovesLead addresses f moves new → Contains f.sent d → Contains new.sent d

@@ -8,8 +8,11 @@ use Rattle.fw_names.specs.Name.{Campaign, IsRelease, name_of}
 use Rattle.fw_client.specs.Ask.{Ask, block_size, first_missing, blocks, status, info, active_name, enable, initiate, block, verify, activate}
 use Rattle.fw_client.specs.State.{invoke_byte}
 use Rattle.fw_book.specs.declared.row.RowState.{RowState}
+use Rattle.fw_book.specs.declared.row.RowState.TheVariants as states
 use Rattle.fw_book.specs.Rows.{state_of}
 use Rattle.fw_book.specs.Contents.{Contents, Offered, image_in, state_in}
+use Rattle.fw_book.specs.Changes.{marked}
+use Rattle.fw_book.specs.Laws.{ImagesStay, StatesFollowCalls}
 use Rattle.fw_ledger.specs.declared.record.Ending.{Ending}
 use Rattle.fw_ledger.specs.declared.record.Ending.TheVariants.{Done as IsDone}
 use Rattle.fw_head.specs.declared.news.News.{News}
@@ -26,9 +29,10 @@ use Rattle.fw_world.specs.Step as worlds
 use Rattle.fw_world.specs.Step.{Event, MayAsk, Permits, deliver, restart_head, tick}
 use Rattle.fw_world.specs.World.{Datagram, Offers, World, same_campaign, with_done, with_offer}
 use Rattle.fw_field.specs.Field.{Field}
-use Rattle.fw_field.specs.Moves.{CancelsAt, Comes, GoesOut, HeadIsKilledAt, OpensAt, StepsAt, WasAnswered, to_head, to_meter, told_by}
+use Rattle.fw_field.specs.Moves.{CancelsAt, Comes, GivesRowUp, GoesOut, HeadIsKilledAt, OpensAt, StepsAt, WasAnswered, to_head, to_meter, told_by}
 use Rattle.fw_field.proofs.Maps.{itself, mark_follows, mark_keeps, none_some, number_of}
 use Rattle.fw_field.proofs.Mini.{Marked, Opened, Same, cancelling, hearing, mark_of, marks_in, opening, same_book}
+use Rattle.fw_field.proofs.GivenUp.{giving_up}
 use Rattle.fw_field.proofs.Following.{Follows, Goes, IsKept, IsSound, Saves, Simulates, done_of, head_moves, head_sound, next_head, offered_of}
 
 -- ---- only a campaign of the book's head end has an image or a state
@@ -357,6 +361,38 @@ module _ (stay_law : HeadsStay) (steps : StateStepsAsWorld) (old new : Field) (w
       grows : Grows number t.before t.after
       grows = anew number t.before t.after (ap (λ (h : Head). h.book.head) head ∙ kept.own) (ap (λ (l : Leader). l.synced) t.led ∙ ap (λ (h : Head). h.book) (sym head))
           (λ c m at e. same.done c m at ∙ kept.done c m at e)
+
+  pub give_up_goes : StatesFollowCalls → ImagesStay → (number meter : ℕ) → GivesRowUp old number meter new → Goes w new
+  give_up_goes follow stay number meter t =
+      subst G (sym t.new_is)
+      (goes old w number s sound t.before t.after t.there old.sent old.told is
+      (stays_by old w number s sound t.before t.after t.there old.sent old.told s.sent same) grows
+      (no_more old w number s sound t.before t.after t.there old.told refl))
+    where
+      G : Field → Type 0
+      G f = Goes w f
+
+      was : IsHead t.before.head
+      was = sound.rows number t.before t.there
+
+      campaign : Campaign
+      campaign = t.gives.row.name.campaign
+
+      live : state_in t.before.head.book campaign meter ≡ Some states.Live
+      live = (was.of_book meter t.gives.row t.gives.found).live
+
+      book : t.after.head.book ≡ marked t.before.head.book campaign.serial meter states.Failed
+      book = ap (λ (h : Head). h.book) t.gives.new_is
+
+      is : IsHead t.after.head
+      is = stay_law.given_up t.before.head t.after.head meter t.why t.given was t.gives
+
+      same : Same number t.before.head t.after.head
+      same = giving_up follow stay number t.before.head t.after.head campaign meter (state_of_head t.before.head.book campaign meter states.Live live) live book
+
+      grows : Grows number t.before t.after
+      grows = heard_grows old w number s sound t.before t.after t.there (ap (λ (l : Leader). l.synced) t.waits) (ap (λ (x : Contents). x.head) book) same.images
+          (λ c m at e. same.done c m at ∙ e)
 
   pub open_goes : (campaign : Campaign) (release : ℕ) (image meters : List ℕ) → OpensAt old campaign release image meters new → Goes w new
   open_goes campaign release image meters t = subst G (sym t.new_is) (goes old w number s sound t.before t.after t.there old.sent old.told is follows grows (no_more old w number s sound t.before t.after t.there old.told refl))

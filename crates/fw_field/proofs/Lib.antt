@@ -1,5 +1,6 @@
 mod Maps
 mod Mini
+mod GivenUp
 mod Following
 mod Meters
 mod Heads

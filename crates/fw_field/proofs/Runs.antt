@@ -10,6 +10,7 @@ use Rattle.fw_meter.specs.Laws.{Faultless, TurnFaultIsStop}
 use Rattle.fw_book.specs.Rows.{state_of}
 use Rattle.fw_book.specs.Contents.{Contents, Offered, image_in, state_in}
 use Rattle.fw_book.specs.Changes.{empty_book}
+use Rattle.fw_book.specs.Laws.{ImagesStay, StatesFollowCalls}
 use Rattle.fw_head.specs.Head.{Head, IsHead}
 use Rattle.fw_head.specs.Laws.{HeadsStay, ReportedByClaim}
 use Rattle.fw_daemon.specs.Daemon.{Daemon}
@@ -21,7 +22,7 @@ use Rattle.fw_world.specs.State.{is_done}
 use Rattle.fw_world.specs.Step.{Event, IsOpening, Run}
 use Rattle.fw_world.specs.World.{World}
 use Rattle.fw_field.specs.Field.{Field, IsBeginning, done_by, is_saved, offered_by, saved_by, world_of}
-use Rattle.fw_field.specs.Moves.{Move, round, kill_meter, step, open_campaign, cancel_campaign, kill_head, MovesLead, Goes as Move_goes}
+use Rattle.fw_field.specs.Moves.{Move, round, kill_meter, step, open_campaign, cancel_campaign, give_up, kill_head, MovesLead, Goes as Move_goes}
 use Rattle.fw_field.specs.Laws.{AfterMoves, IsRun, ReportsAreKept, ReportsAreTrue}
 use Rattle.fw_field.proofs.Maps.{funext, itself, none_some, run_append, same_world, some_is}
 use Rattle.fw_field.proofs.Following.{Goes, IsKept, IsSound, Simulates}
@@ -104,13 +105,14 @@ itself_simulates f = record { offered = λ c. refl; sent = refl; meters = λ n. 
 
 -- ---- moves
 
-module _ (faultless : Faultless) (turn_law : TurnFaultIsStop) (done_law : ReportedByClaim) (stay_law : HeadsStay) (steps : StateStepsAsWorld) where
+module _ (faultless : Faultless) (turn_law : TurnFaultIsStop) (follow : StatesFollowCalls) (kept : ImagesStay) (done_law : ReportedByClaim) (stay_law : HeadsStay) (steps : StateStepsAsWorld) where
   move_goes : (addresses : ℕ → List SocketAddr) (old new : Field) (move : Move) (w : World) → Simulates old w → IsSound old → Move_goes addresses old move new → Goes w new
   move_goes addresses old new (round number) w s sound m = meters.round_goes faultless turn_law addresses old new w number s sound m
   move_goes addresses old new (kill_meter number) w s sound m = meters.kill_goes faultless turn_law addresses old new w number s sound m
   move_goes addresses old new (step number made) w s sound m = heads.made_goes stay_law steps old new w s sound done_law number made m
   move_goes addresses old new (open_campaign campaign release image meters) w s sound m = heads.open_goes stay_law steps old new w s sound campaign release image meters m
   move_goes addresses old new (cancel_campaign campaign) w s sound m = heads.cancel_goes stay_law steps old new w s sound campaign m
+  move_goes addresses old new (give_up number meter) w s sound m = heads.give_up_goes stay_law steps old new w s sound follow kept number meter m
   move_goes addresses old new (kill_head number) w s sound m = heads.kill_goes stay_law steps old new w s sound number m
 
   moves_go : (addresses : ℕ → List SocketAddr) (old new : Field) (moves : List Move) (w : World) → Simulates old w → IsSound old → MovesLead addresses old moves new → Goes w new

@@ -8,11 +8,15 @@ use Rattle.fw_image.specs.Step.{Turn}
 use Rattle.fw_meter.specs.Laws.{Stops, TearsBlock}
 use Rattle.fw_book.specs.Changes.{opening_refusal, cancel_refusal}
 use Rattle.fw_book.specs.Contents.{Contents}
-use Rattle.fw_head.specs.Head.{BeginsWith, Head, opened_head, cancelled_head}
+use Rattle.fw_book.specs.declared.notes.End.{End}
+use Rattle.fw_head.specs.declared.giving_up.GivenUp.{GivenUp}
+use Rattle.fw_head.specs.declared.giving_up.WhyGivenUp.{WhyGivenUp}
+use Rattle.fw_head.specs.declared.news.News.TheVariants.{Failed}
+use Rattle.fw_head.specs.Head.{BeginsWith, GivesUpRow, Head, opened_head, cancelled_head}
 use Rattle.fw_daemon.specs.Daemon.{Daemon, IsServed, MayAsk, TakesTurn}
 use Rattle.fw_daemon.specs.Serving.{IsStrange, IsUnserved}
 use Rattle.fw_rollout.specs.Daemon.{new_leader}
-use Rattle.fw_rollout.specs.Leading.{Leader, Step, hears, sends, tells, IsListed, Steps}
+use Rattle.fw_rollout.specs.Leading.{Leader, Step, hears, sends, tells, ended_by, IsListed, Steps}
 use Rattle.fw_rollout.specs.declared.ended.Ended.{Ended}
 use Rattle.fw_world.specs.declared.datagram.Direction.TheVariants.{ToMeter, ToHead}
 use Rattle.fw_world.specs.Step.{activated, replies}
@@ -29,6 +33,8 @@ pub data Move : Type 0 where
   -- a campaign is opened or cancelled by its head end
   open_campaign : Campaign → ℕ → List ℕ → List ℕ → Move
   cancel_campaign : Campaign → Move
+  -- a head end gives up the row of a meter
+  give_up : ℕ → ℕ → Move
   -- a head end is killed, and started again
   kill_head : ℕ → Move
 
@@ -181,6 +187,20 @@ pub record CancelsAt (old : Field) (campaign : Campaign) (new : Field) : Type 0 
   pub led : IsLedAnew after (cancelled_head before.head campaign.serial)
   pub new_is : new ≡ with_leader old campaign.head after
 
+-- A head end gives up the live row of a meter, though no answer ended it. The row failed, and waits for the device as any row that an answer
+-- ended: later steps save it and report it. Where the head end is killed before, the row is live again.
+pub record GivesRowUp (old : Field) (number meter : ℕ) (new : Field) : Type 0 where
+  pub before : Leader
+  pub after : Leader
+  pub why : WhyGivenUp
+  pub given : GivenUp
+  pub end : End
+  pub there : old.heads number ≡ Some before
+  pub gives : GivesUpRow before.head meter why given after.head
+  pub reason : end.reason ≡ Some given.reason
+  pub waits : after ≡ record before { head = after.head; unsaved = before.unsaved ++ ended_by (Failed given.campaign meter) end }
+  pub new_is : new ≡ with_leader old number after
+
 -- A head end is killed, and started again with the book that is read back from the device. That is the last one that was synced, or, where
 -- it was killed while it put the marks that wait on the device, the one in memory.
 pub record HeadIsKilledAt (old : Field) (number : ℕ) (new : Field) : Type 0 where
@@ -202,6 +222,7 @@ Goes addresses old (kill_meter number) new = IsKilledAt old number new ⊎ IsKil
 Goes addresses old (step number made) new = StepsAt old number made new
 Goes addresses old (open_campaign campaign release image meters) new = OpensAt old campaign release image meters new
 Goes addresses old (cancel_campaign campaign) new = CancelsAt old campaign new
+Goes addresses old (give_up number meter) new = GivesRowUp old number meter new
 Goes addresses old (kill_head number) new = HeadIsKilledAt old number new
 
 -- These moves lead from a field to another one, each from the field that the one before it led to. Head ends have

@@ -32,6 +32,8 @@ pub fn moves_are_runs()
 {
     fw_meter::laws::faultless();
     fw_meter::laws::turn_fault_is_stop();
+    fw_book::laws::states_follow();
+    fw_book::laws::images_stay();
     fw_head::laws::reported_by_claim();
     fw_head::laws::heads_stay();
     fw_world::laws::state_steps_as_world();
@@ -45,6 +47,8 @@ pub fn reports_are_kept()
 {
     fw_meter::laws::faultless();
     fw_meter::laws::turn_fault_is_stop();
+    fw_book::laws::states_follow();
+    fw_book::laws::images_stay();
     fw_head::laws::reported_by_claim();
     fw_head::laws::heads_stay();
     fw_world::laws::state_steps_as_world();

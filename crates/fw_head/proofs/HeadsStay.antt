@@ -6,11 +6,13 @@ use Rattle.fw_book.specs.declared.row.RowState.TheVariants as states
 use Rattle.fw_book.specs.Contents.{Offered, state_in}
 use Rattle.fw_book.specs.Changes.{empty_book, marked, opened, cancelled, opening_refusal}
 use Rattle.fw_book.specs.Laws.{AdmittedOpens, ImagesStay, OpeningOffers, StatesFollowCalls}
+use Rattle.fw_head.specs.declared.giving_up.GivenUp.{GivenUp}
+use Rattle.fw_head.specs.declared.giving_up.WhyGivenUp.{WhyGivenUp}
 use Rattle.fw_head.specs.declared.news.News.{News}
 use Rattle.fw_head.specs.declared.news.RowNews.{RowNews}
 use Rattle.fw_head.specs.declared.news.RowNews.TheVariants as by
 use Rattle.fw_head.specs.Row.{Row, RowHears, ticked}
-use Rattle.fw_head.specs.Head.{Head, HeadHears, IsHead, at_meter, cancelled_head, campaign_at, image_of, new_head, new_rows, opened_head, renewed, restarted, row_of, ticked_head, went_on, without_meter, without_serial}
+use Rattle.fw_head.specs.Head.{Head, GivesUpRow, HeadHears, IsHead, at_meter, cancelled_head, campaign_at, image_of, new_head, new_rows, opened_head, renewed, restarted, row_of, ticked_head, went_on, without_meter, without_serial}
 use Rattle.fw_head.specs.Laws.{HeadsStay}
 use Rattle.fw_head.proofs.Cancelling.{head_cancelled_by}
 use Rattle.fw_head.proofs.Endings.{head_ended_by}
@@ -58,6 +60,14 @@ module _ (follow : StatesFollowCalls) (stay : ImagesStay) (offers : OpeningOffer
       let P : Head → Type 0 = λ h. IsHead h in
       subst P (sym ignores.2) is
 
+  gives_up : (old new : Head) (meter : ℕ) (why : WhyGivenUp) (given : GivenUp) → IsHead old → GivesUpRow old meter why given new → IsHead new
+  gives_up old new meter why given is gives =
+      let P : Head → Type 0 = λ h. IsHead h in
+      let serial = gives.row.name.campaign.serial in
+      subst P (sym gives.new_is)
+      (head_ended_by follow stay old.book (marked old.book serial meter states.Failed) old.width old.rows (without_meter meter old.rows) meter gives.row serial states.Failed
+      refl gives.found refl refl refl is)
+
   ticks : (head : Head) (meter : ℕ) → IsHead head → IsHead (ticked_head head meter)
   ticks head meter is =
       let change : Row → Row = λ row. ticked row (image_of head row) head.width in
@@ -81,4 +91,4 @@ module _ (follow : StatesFollowCalls) (stay : ImagesStay) (offers : OpeningOffer
   again head is = head_kept head.book head.width head.rows (renewed head.rows) (keys_renewed head.rows) (agree_renewed head.rows) is
 
   pub heads_stay : HeadsStay
-  heads_stay = record { new = none_new; heard = heard; ticked = ticks; opened = opening; cancelled = cancelling; restarted = again }
+  heads_stay = record { new = none_new; heard = heard; given_up = gives_up; ticked = ticks; opened = opening; cancelled = cancelling; restarted = again }

@@ -1,5 +1,5 @@
 -- Public vocabulary: a head end, its book and the live rows, and what each call makes of it.
-use Rattle.std.specs.Prelude.{◌≡◌, ℕ, Bool, true, ◌==◌, nat_eq, not, ◌⊎◌, List, [], ◌∷◌, ◌++◌, map, filter, length, Option, Some, None, unwrap_or, if◌then◌else◌}
+use Rattle.std.specs.Prelude.{◌≡◌, ℕ, Bool, true, false, ◌==◌, nat_eq, not, ◌⊎◌, List, [], ◌∷◌, ◌++◌, map, filter, length, Option, Some, None, unwrap_or, if◌then◌else◌}
 use Rattle.std.specs.List.{IsDistinct, list_any}
 use Rattle.std.specs.Map.{lookup, keys_of}
 use Rattle.std.specs.Option.{option_map, option_map_or}
@@ -12,13 +12,15 @@ use Rattle.fw_book.specs.Rows.{has_live}
 use Rattle.fw_book.specs.Contents.{Contents, Offered, offered_in, image_in, name_in, state_in}
 use Rattle.fw_book.specs.Changes.{empty_book, opened, cancelled, marked}
 use Rattle.fw_book.specs.declared.notes.Reason.{Reason}
+use Rattle.fw_head.specs.declared.giving_up.GivenUp.{GivenUp}
+use Rattle.fw_head.specs.declared.giving_up.WhyGivenUp.{WhyGivenUp}
 use Rattle.fw_head.specs.declared.news.News.{News}
 use Rattle.fw_head.specs.declared.news.News.TheVariants as news
 use Rattle.fw_head.specs.declared.news.RowNews.{RowNews}
 use Rattle.fw_head.specs.declared.news.RowNews.TheVariants.{Nothing, Moved, Done, Failed}
 use Rattle.fw_book.specs.declared.phase.Phase.TheVariants as phase
-use Rattle.fw_head.specs.Phase.{phase_of, IsLive}
-use Rattle.fw_head.specs.Row.{Row, new_row, reopened_row, sends, ticked, RowHears, RowMayWant, IsPermitted, IsFailedBy}
+use Rattle.fw_head.specs.Phase.{phase_of, activates, IsLive}
+use Rattle.fw_head.specs.Row.{Row, new_row, reopened_row, sends, ticked, RowHears, RowMayWant, IsPermitted, IsFailedBy, given_up}
 
 -- the live rows, each under the number of its meter
 abbrev pub Rows : Type 0
@@ -78,6 +80,10 @@ RowsMayWant rows meter datagram = (row : Row) × (row_of rows meter ≡ Some row
 abbrev pub HasOutstanding : Head → ℕ → Type 0
 HasOutstanding head meter = (row : Row) × (row_of head.rows meter ≡ Some row) × IsWaiting row.client
 
+-- whether a meter has a live row whose next tick asks to activate the image
+abbrev pub activates_at : Head → ℕ → Bool
+activates_at head meter = option_map_or (λ (row : Row). activates row.stage) (row_of head.rows meter) false
+
 -- ---- what each call makes of a head end
 
 abbrev pub new_head : ℕ → ℕ → Head
@@ -130,6 +136,13 @@ went_on head meter row Nothing = head
 went_on head meter row Moved = record head { rows = at_meter meter (λ old. row) head.rows }
 went_on head meter row (Done claim) = record head { book = marked head.book row.name.campaign.serial meter state.Done; rows = without_meter meter head.rows }
 went_on head meter row (Failed why) = record head { book = marked head.book row.name.campaign.serial meter state.Failed; rows = without_meter meter head.rows }
+
+-- The live row of a meter is given up without an answer, and this is told of it: the book has the row as failed, and it is live no more.
+pub record GivesUpRow (old : Head) (meter : ℕ) (why : WhyGivenUp) (given : GivenUp) (new : Head) : Type 0 where
+  pub row : Row
+  pub found : row_of old.rows meter ≡ Some row
+  pub given_is : given ≡ given_up row why
+  pub new_is : new ≡ went_on old meter row (Failed given.reason)
 
 -- the live row of the sender hears the datagram
 pub record HeadTakes (old : Head) (meter : ℕ) (datagram : List ℕ) (told : News) (new : Head) : Type 0 where

@@ -9,6 +9,8 @@ use Rattle.fw_book.specs.declared.row.RowState.TheVariants as state
 use Rattle.fw_book.specs.Contents.{Contents, image_in, name_in, state_in}
 use Rattle.fw_book.specs.Changes.{opening_refusal}
 use Rattle.fw_book.specs.declared.notes.Reason.{Reason}
+use Rattle.fw_head.specs.declared.giving_up.GivenUp.{GivenUp}
+use Rattle.fw_head.specs.declared.giving_up.WhyGivenUp.{WhyGivenUp}
 use Rattle.fw_head.specs.declared.stage.Stage.{Stage}
 use Rattle.fw_head.specs.declared.stage.Stage.TheVariants.{Done, Failed}
 use Rattle.fw_head.specs.declared.news.News.{News}
@@ -18,7 +20,7 @@ use Rattle.fw_head.specs.declared.news.RowNews.{RowNews}
 use Rattle.fw_head.specs.declared.news.RowNews.TheVariants as news
 use Rattle.fw_head.specs.Phase.{phase_of}
 use Rattle.fw_head.specs.Row.{Row, RowHears, IsFailedBy}
-use Rattle.fw_head.specs.Head.{Head, HeadHears, IsDoneBy, IsGivenUp, IsHead, row_of, restarted, asking_first, BeginsWith, cancelled_head, new_head, opened_head, ticked_head}
+use Rattle.fw_head.specs.Head.{Head, GivesUpRow, HeadHears, IsDoneBy, IsGivenUp, IsHead, row_of, restarted, asking_first, BeginsWith, cancelled_head, new_head, opened_head, ticked_head}
 use Rattle.fw_head.specs.Parts.{AreLiveRows, by_meter, with_ends, joined}
 
 -- a row and a datagram determine what is reported, and the row afterwards
@@ -120,6 +122,7 @@ BeginsRestarted = (head begun : Head) → IsHead head → BeginsWith head.book h
 pub record HeadsStay : Type 0 where
   pub new : (number width : ℕ) → IsHead (new_head number width)
   pub heard : (old new : Head) (meter : ℕ) (datagram : List ℕ) (told : News) → IsHead old → HeadHears old meter datagram told new → IsHead new
+  pub given_up : (old new : Head) (meter : ℕ) (why : WhyGivenUp) (given : GivenUp) → IsHead old → GivesUpRow old meter why given new → IsHead new
   pub ticked : (head : Head) (meter : ℕ) → IsHead head → IsHead (ticked_head head meter)
   pub opened : (head : Head) (campaign : Campaign) (release : ℕ) (image meters : List ℕ) → IsHead head → opening_refusal head.book campaign image meters ≡ None
       → IsHead (opened_head head campaign.serial release image meters)

@@ -44,6 +44,11 @@ has_ended (Done claim) = true
 has_ended (Failed why) = true
 has_ended stage = false
 
+-- whether a tick asks to activate the image: in no other phase it does
+abbrev pub activates : Stage → Bool
+activates (Activate g) = true
+activates stage = false
+
 -- ---- what a tick asks
 
 -- the transfer of a block

@@ -12,6 +12,8 @@ use Rattle.fw_client.specs.Hearing.{Takes, AnswersNone, MayCarryData}
 use Rattle.fw_client.specs.declared.heard.Heard.{Heard}
 use Rattle.fw_book.specs.declared.notes.Answer.{Answer}
 use Rattle.fw_book.specs.declared.notes.Reason.{Reason}
+use Rattle.fw_head.specs.declared.giving_up.GivenUp.{GivenUp}
+use Rattle.fw_head.specs.declared.giving_up.WhyGivenUp.{WhyGivenUp}
 use Rattle.fw_head.specs.declared.stage.Stage.{Stage}
 use Rattle.fw_head.specs.declared.stage.Stage.TheVariants.{Size, Start, Blocks, Gaps, Confirm, Done, Failed}
 use Rattle.fw_head.specs.declared.answers.Step.{Step}
@@ -19,7 +21,7 @@ use Rattle.fw_head.specs.declared.answers.Step.TheVariants.{Stay, Took, Move, Re
 use Rattle.fw_head.specs.declared.news.RowNews.{RowNews}
 use Rattle.fw_head.specs.declared.news.RowNews.TheVariants as news
 use Rattle.fw_head.specs.Phase.{phase_of, asks_first_in, Leads, TakesMemory, with_known}
-use Rattle.fw_head.specs.Reason.{answer_of, reason_at}
+use Rattle.fw_head.specs.Reason.{answer_of, answer_for, reason_at}
 
 pub record Row : Type 0 where
   -- the name and the size of the image that the meter is to run
@@ -218,3 +220,7 @@ pub record IsFailedBy (row : Row) (datagram : List ℕ) (why : Reason) : Type 0 
   pub in_phase : phase_of row.stage ≡ why.phase
   pub leads : Leads row.name row.size row.stage heard step
   pub fails : FailsAt row step
+
+-- what is told of a row that is given up without an answer: its campaign, its phase, and why
+abbrev pub given_up : Row → WhyGivenUp → GivenUp
+given_up row why = record { campaign = row.name.campaign; reason = reason_at row.stage (answer_for why) }

@@ -1,6 +1,6 @@
 //! A head end: the book of its campaigns, and a row for each meter that is live in one of them.
 
-ghost use Rattle.std.specs.Prelude.{◌≡◌, ◌≤◌, ◌↔◌, ℕ, true, length, All, None, is_some, MatchBool, IsTrue, IsSomeAnd, IfOk, IfErr, IsOk, OnOk, OnErr};
+ghost use Rattle.std.specs.Prelude.{◌≡◌, ◌≤◌, ◌↔◌, ℕ, true, length, All, None, is_some, MatchBool, MatchOption, IsTrue, IsSomeAnd, IfOk, IfErr, IsOk, OnOk, OnErr};
 ghost use Rattle.std.specs.Map.{values_of};
 ghost use Rattle.fw_names.specs.Name.{Campaign, name_of};
 ghost use Rattle.fw_blocks.specs.Width.{IsWidth};
@@ -9,6 +9,7 @@ ghost use Rattle.fw_book.specs.Changes.{opening_refusal, cancel_refusal, IsRefus
 
 use crate::ending::expect_marked;
 use crate::error::PutError;
+use crate::giving_up::{GivenUp, WhyGivenUp};
 use crate::laws;
 use crate::news::{News, RowNews, Told};
 use crate::parts::HeadParts;
@@ -60,7 +61,7 @@ impl HeadCore {
     ghost use Rattle.fw_head.specs.Row.{bytes_of};
     ghost use Rattle.fw_head.specs.Parts.{AreLiveRows, PutRefused, joined};
     ghost use Rattle.fw_head.specs.Head.{IsHead, row_of, RowsMayWant, new_head, campaign_at, opened_head, cancelled_head};
-    ghost use Rattle.fw_head.specs.Head.{BeginsWith, has_live_row, HasOutstanding};
+    ghost use Rattle.fw_head.specs.Head.{BeginsWith, GivesUpRow, activates_at, has_live_row, HasOutstanding};
     ghost use Rattle.fw_head.specs.Head.{restarted, sends_to, ticked_head, HeadHears, IsDoneBy, TellsReason, IsOfferedIn};
 
     /// A head end of no campaign, that sends up to `width` blocks at a time. It keeps the allocator, and takes no memory.
@@ -246,6 +247,24 @@ impl HeadCore {
         })
     }
 
+    /// Gives up the live row of a meter without an answer, and tells which row it was and in which phase. The book has the row as
+    /// failed, and nothing more is sent for it. If the meter has no live row, nothing changes.
+    pub fn give_up(&mut self, meter: MeterId, why: WhyGivenUp) -> Option<GivenUp>
+        ensures was { IsHead self.old }
+        ensures given_up { MatchOption result ((row_of self.old.rows meter ≡ None) × (self.new ≡ self.old))
+            (λ given. GivesUpRow self.old meter why given self.new) }
+    {
+        fw_book::laws::states_follow();
+        fw_book::laws::images_stay();
+        let given = match self.rows.get(meter) {
+            Some(row) => row.given_up(why),
+            None => return None,
+        };
+        expect_marked(self.book.mark_failed(given.campaign, meter));
+        self.rows.end(meter);
+        Some(given)
+    }
+
     /// Whether a meter has a live row. If it has none, a tick sends it nothing and takes no memory.
     pub fn has_row(&self, meter: MeterId) -> bool
         ensures value { result ≡ is_some (row_of self.now.rows meter) }
@@ -261,6 +280,16 @@ impl HeadCore {
     {
         match self.rows.get(meter) {
             Some(row) => row.is_waiting(),
+            None => false,
+        }
+    }
+
+    /// Whether a meter has a live row whose next tick asks to activate the image. No other tick asks for that.
+    pub fn activates(&self, meter: MeterId) -> bool
+        ensures { result ≡ activates_at self.now meter }
+    {
+        match self.rows.get(meter) {
+            Some(row) => row.activates(),
             None => false,
         }
     }

@@ -7,6 +7,7 @@ ghost use Rattle.fw_client.specs.State.{IsWaiting};
 use crate::answers::{Step, next_step};
 use crate::asks::{ask_blocks, ask_one, ask_two};
 use crate::ending::expect_marked;
+use crate::giving_up::{GivenUp, WhyGivenUp};
 use crate::news::RowNews;
 use crate::reason::answer_of;
 use crate::stage::Stage;
@@ -53,7 +54,7 @@ impl Model for RowCore {
 
 impl RowCore {
     ghost use Rattle.fw_head.specs.Row.{Row, bytes_of, new_row, reopened_row, ticked, sends, moved, returned, settled, with_block};
-    ghost use Rattle.fw_head.specs.Row.{went, asked_first, stepped};
+    ghost use Rattle.fw_head.specs.Row.{went, asked_first, stepped, given_up};
     ghost use Rattle.fw_head.specs.Row.{
       RowHears,
       IsPermitted,
@@ -66,7 +67,7 @@ impl RowCore {
       reason_in,
       IsClaimOf,
     };
-    ghost use Rattle.fw_head.specs.Phase.{phase_of, has_ended, IsLive};
+    ghost use Rattle.fw_head.specs.Phase.{phase_of, activates, has_ended, IsLive};
     ghost use Rattle.fw_head.specs.Parts.{with_end};
     ghost use Rattle.fw_head.specs.Private.{IsOfBook, Carry, IsCutOf, IsOwn, IsOwnStep, IsOwnNews, IsAsking, IsAskingStep};
 
@@ -122,6 +123,13 @@ impl RowCore {
         self.stage.phase()
     }
 
+    /// Whether a tick asks the meter to activate the image.
+    pub(crate) fn activates(&self) -> bool
+        ensures { result ≡ activates self.now.stage }
+    {
+        self.stage.activates()
+    }
+
     /// The claim that ended the row, if one did: the row's meter answered that it runs the image of the row's name.
     pub fn claim(&self) -> Option<ActiveClaim>
         ensures value { result ≡ claim_in self.now.stage }
@@ -135,6 +143,18 @@ impl RowCore {
         ensures { result ≡ reason_in self.now.stage }
     {
         self.stage.reason()
+    }
+
+    /// What is told of the row if it is given up as it is now.
+    pub(crate) fn given_up(&self, why: WhyGivenUp) -> GivenUp
+        ensures { result ≡ given_up self.now why }
+    {
+        let phase = self.phase();
+        let answer = why.answer();
+        GivenUp {
+            campaign: self.name.campaign,
+            reason: Reason { phase, answer },
+        }
     }
 
     /// Whether an ask of the row is outstanding: no answer to it came since the last tick or move.

@@ -1,7 +1,7 @@
 //! The phases of a row, each with what is known in it.
 
 ghost use Rattle.std.specs.Prelude.{◌≡◌};
-ghost use Rattle.fw_head.specs.Phase.{phase_of, has_ended, with_known};
+ghost use Rattle.fw_head.specs.Phase.{phase_of, activates, has_ended, with_known};
 ghost use Rattle.fw_head.specs.Row.{claim_in, reason_in, confirm_first, news_in, with_block};
 
 use crate::news::RowNews;
@@ -54,6 +54,16 @@ impl Stage {
             Stage::Confirm(_) => Phase::Confirm,
             Stage::Done(_) => Phase::Done,
             Stage::Failed(_) => Phase::Failed,
+        }
+    }
+
+    /// Whether a tick asks to activate the image.
+    pub(crate) fn activates(&self) -> bool
+        ensures { result ≡ activates self.now }
+    {
+        match self {
+            Stage::Activate(_) => true,
+            _ => false,
         }
     }
 

@@ -3,20 +3,23 @@ use Rattle.std.proofs.Common.{◌≡◌, ⊎_elim, ℕ, List, [], ◌∷◌, Boo
 use Rattle.std.specs.Map.{lookup}
 use Rattle.std.specs.Option.{option_map_or}
 use Rattle.std.proofs.lemmas.Bool.{cond_both}
-use Rattle.fw_names.specs.Name.{Name, IsRelease, name_of}
+use Rattle.fw_names.specs.Name.{Campaign, Name, IsRelease, name_of}
 use Rattle.fw_book.specs.declared.row.Row.{Row}
 use Rattle.fw_book.specs.declared.row.RowState.{RowState}
 use Rattle.fw_book.specs.declared.row.RowState.TheVariants as state
 use Rattle.fw_book.specs.Rows.{state_of, with_state}
 use Rattle.fw_book.specs.Contents.{Offered, Contents, offered_in}
 use Rattle.fw_book.specs.Changes.{marked, at_serial}
+use Rattle.fw_head.specs.declared.giving_up.GivenUp.{GivenUp}
+use Rattle.fw_head.specs.declared.giving_up.WhyGivenUp.{WhyGivenUp}
 use Rattle.fw_head.specs.declared.news.News.{News}
+use Rattle.fw_head.specs.declared.news.News.TheVariants as news
 use Rattle.fw_head.specs.declared.news.Told.{Told}
 use Rattle.fw_head.specs.declared.news.RowNews.{RowNews}
 use Rattle.fw_head.specs.declared.news.RowNews.TheVariants.{Nothing, Moved, Done, Failed}
 use Rattle.fw_head.specs.Row as row
 use Rattle.fw_head.specs.Row.{IsPermitted}
-use Rattle.fw_head.specs.Head.{Head, IsHead, IsRowOf, HeadTakes, HeadHears, IsOfferedIn, went_on, news_of, ticked_head}
+use Rattle.fw_head.specs.Head.{Head, IsHead, IsRowOf, GivesUpRow, HeadTakes, HeadHears, IsOfferedIn, went_on, news_of, ticked_head}
 use Rattle.fw_head.specs.Laws.{RowKeepsGoal}
 use Rattle.fw_kept.specs.Head.{OfferSame, OffersAlso}
 use Rattle.fw_kept.specs.Private.{IsNewsOf, NewsMake}
@@ -185,6 +188,19 @@ told_offers keeps (Err e) old new from datagram is hears same = λ campaign. ap 
 pub told_number : {E : Type 0} → RowKeepsGoal → (r : Result Told E) (old new : Head) (from : ℕ) (datagram : List ℕ) → IsHead old → IfOk r (λ told. HeadHears old from datagram told.news new) → OnErr r (new ≡ old) → new.book.head ≡ old.book.head
 told_number keeps (Ok told) old new from datagram is hears same = (head_hears keeps old new from datagram told.news is hears).number
 told_number keeps (Err e) old new from datagram is hears same = ap (λ (h : Head). h.book.head) same
+
+-- a row that is given up makes of the book what news of a failed row do
+pub gives_up : (old new : Head) (meter : ℕ) (why : WhyGivenUp) (given : GivenUp) → IsHead old → GivesUpRow old meter why given new → Hears old.book (news.Failed given.campaign meter) new.book
+gives_up old new meter why given is gives =
+    let own = is.of_book meter gives.row gives.found in
+    let of : given.campaign ≡ gives.row.name.campaign = ap (λ (g : GivenUp). g.campaign) gives.given_is in
+    hears_of old new (news.Failed given.campaign meter) (news.Failed gives.row.name.campaign meter) (went_on old meter gives.row (Failed given.reason)) gives.new_is
+    (ap (λ (c : Campaign). news.Failed c meter) of) (record {
+      makes = row_makes old meter gives.row gives.row own refl (Failed given.reason);
+      number = row_number old meter gives.row gives.row own refl (Failed given.reason);
+      offers = row_offers old meter gives.row gives.row own refl (Failed given.reason);
+      news = row_news old meter gives.row gives.row own refl (Failed given.reason);
+    })
 
 -- books that offer the same as a third
 pub offers_on : (a b c : Contents) → OfferSame a b → OfferSame b c → OfferSame a c

@@ -6,7 +6,9 @@ use Rattle.fw_book.specs.Contents.{Contents, Offered, offered_in}
 use Rattle.fw_book.specs.Notes.{Known, with_ending}
 use Rattle.fw_book.specs.declared.error.BookError.{BookError}
 use Rattle.fw_book.specs.declared.notes.Reason.{Reason}
-use Rattle.fw_head.specs.Head.{Head, HeadHears}
+use Rattle.fw_head.specs.Head.{Head, GivesUpRow, HeadHears}
+use Rattle.fw_head.specs.declared.giving_up.GivenUp.{GivenUp}
+use Rattle.fw_head.specs.declared.giving_up.WhyGivenUp.{WhyGivenUp}
 use Rattle.fw_head.specs.declared.news.News.{News}
 use Rattle.fw_head.specs.declared.news.News.TheVariants.{Nothing, Moved, Done, Failed}
 use Rattle.fw_journal.specs.Device.{LeavesOnly, Keeps as DeviceKeeps}
@@ -87,6 +89,19 @@ pub record LosesMark {D : Type 0} (old : KeptHead D) (meter : ℕ) (datagram : L
   pub told : News
   pub hears : HeadHears old.head meter datagram told new.head
   pub ends : IsEnd told
+  pub broken : new.broken ≡ true
+
+-- ---- what is given up
+
+-- what is known once the row of a meter is given up: when it ended, and why
+abbrev pub known_given_up : Known → ℕ → GivenUp → ℕ → Known
+known_given_up known meter given now = with_ending known given.campaign.serial meter (record { at = now; reason = Some given.reason })
+
+-- A row was given up, and memory for the record of its mark or for its note was refused. The book in memory has the mark, and nothing is
+-- committed any more.
+pub record LosesGivenUp {D : Type 0} (old : KeptHead D) (meter : ℕ) (why : WhyGivenUp) (new : KeptHead D) : Type 0 where
+  pub given : GivenUp
+  pub gives : GivesUpRow old.head meter why given new.head
   pub broken : new.broken ≡ true
 
 -- ---- if nothing is committed any more

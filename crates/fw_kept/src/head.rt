@@ -17,9 +17,11 @@ ghost use Rattle.std.specs.Prelude.{
   IfErr,
   OnOk,
   OnErr,
+  IfSome,
   IsErrOf,
   IsSomeAnd,
   IsTrue,
+  MatchOption,
 };
 ghost use Rattle.fw_names.specs.Name.{Campaign, IsOpened, name_of};
 ghost use Rattle.fw_book.specs.Contents.{Contents};
@@ -28,7 +30,7 @@ ghost use Rattle.fw_book.specs.Notes.{Known, nothing_known, with_opening};
 ghost use Rattle.fw_head.specs.Phase.{IsLive};
 ghost use Rattle.fw_head.specs.Row.{bytes_of};
 ghost use Rattle.fw_head.specs.Head.{row_of, RowsMayWant, new_head, campaign_at, opened_head, cancelled_head, BeginsWith};
-ghost use Rattle.fw_head.specs.Head.{sends_to, ticked_head, HeadHears, IsDoneBy, IsOfferedIn, TellsReason};
+ghost use Rattle.fw_head.specs.Head.{sends_to, ticked_head, GivesUpRow, HeadHears, IsDoneBy, IsOfferedIn, TellsReason};
 ghost use Rattle.fw_journal.specs.Book.{IsBadBook, Drops};
 ghost use Rattle.fw_journal.specs.Device.{Keeps as DeviceKeeps};
 ghost use Rattle.fw_journal.specs.Keeping.{KeepsFirst};
@@ -46,7 +48,7 @@ use crate::opening::open_book;
 use crate::putting::{check_has, opening_of, put, put_noted, put_waiting};
 use fw_blocks::Width;
 use fw_book::Notes;
-use fw_head::{HeadCore, News, OutOfMemory, Told};
+use fw_head::{GivenUp, HeadCore, News, OutOfMemory, Told, WhyGivenUp};
 use fw_journal::{Journal, JournalDevice, JournalError, Keeper, Replacer, RewriteError};
 use fw_ledger::{Note, Record};
 use fw_names::{CampaignId, HeadId, ImageName, MeterId};
@@ -85,6 +87,7 @@ impl<D: JournalDevice> KeptHead<D> {
       book_of,
       known_of,
       known_heard,
+      known_given_up,
       journal_of,
       device_of,
       is_broken,
@@ -92,6 +95,7 @@ impl<D: JournalDevice> KeptHead<D> {
       Holds,
       HoldsNoted,
       LosesMark,
+      LosesGivenUp,
       OfferSame,
       OffersAlso,
       IsBacked,
@@ -509,6 +513,55 @@ impl<D: JournalDevice> KeptHead<D> {
             Err(refusal) => {
                 self.broken = true;
                 Err(refusal)
+            }
+        }
+    }
+
+    /// Gives up the live row of a meter without an answer, as [`HeadCore::give_up`], and tells which row it was. Its mark waits for the
+    /// next commit: only after it may the row be reported as ended. With it waits the note that the row ended now, and why: `now` is the
+    /// seconds since 1970 began (UTC). If the meter has no live row, nothing changes. The device isn't touched.
+    ///
+    /// # Errors
+    ///
+    /// `OutOfMemory` alone: memory for the record of the mark or for its note was refused. The head end is broken then, so that no later
+    /// commit reports the row, and nothing is known of its end.
+    pub fn give_up(
+        &mut self,
+        alloc: Global,
+        meter: MeterId,
+        why: WhyGivenUp,
+        now: u64,
+    ) -> Result<Option<GivenUp>, KeptError>
+        ensures given_up { IfOk result (λ told. MatchOption told ((row_of (head_of self.old).rows meter ≡ None) × (self.new ≡ self.old))
+            (λ given. GivesUpRow (head_of self.old) meter why given (head_of self.new))) }
+        ensures noted { IfOk result (λ told. IfSome told (λ given. known_of self.new
+            ≡ known_given_up (known_of self.old) meter given now)) }
+        ensures known { OnErr result (known_of self.new ≡ known_of self.old) }
+        ensures waits { (synced : Contents) → Holds D.honest D.contents D.may_leave self.old synced
+            → OnOk result (Holds D.honest D.contents D.may_leave self.new synced) }
+        ensures waits_noted { (synced : Contents) (noted : Known) → HoldsNoted D.honest D.contents D.may_leave self.old synced noted
+            → OnOk result (HoldsNoted D.honest D.contents D.may_leave self.new synced noted) }
+        ensures lost { OnErr result (LosesGivenUp self.old meter why self.new) }
+        ensures refused { IfErr result (λ e. e ≡ KeptError.OutOfMemory) }
+
+        // Also if nothing is committed any more: what is offered stays.
+        ensures offers { OfferSame (book_of self.new) (book_of self.old) }
+        ensures backed { IsBacked D.may_leave self.old → IsBacked D.may_leave self.new }
+        ensures device { device_of self.new ≡ device_of self.old }
+    {
+        let Some(given) = self.head.give_up(meter, why) else {
+            return Ok(None);
+        };
+        let ended = Told {
+            news: News::Failed(given.campaign, meter),
+            reason: Some(given.reason),
+        };
+        let book = self.head.view().book;
+        match keep_end(alloc, &mut self.journal, &mut self.notes, book, &ended, now) {
+            Ok(()) => Ok(Some(given)),
+            Err(lost) => {
+                self.broken = true;
+                Err(lost)
             }
         }
     }

@@ -5,7 +5,7 @@ use Rattle.std.specs.Int.{w32, w64, to_be_bytes, from_be_bytes}
 use Rattle.std.proofs.lemmas.Nat.{from_be_bytes-to_be_bytes_4, from_be_bytes-to_be_bytes_8}
 use Rattle.fw_names.specs.Name.{Campaign, IsCampaign, campaign_bytes}
 use Rattle.fw_book.specs.declared.notes.Answer.{Answer}
-use Rattle.fw_book.specs.declared.notes.Answer.TheVariants.{Number, Bits, Status, Info, Active, Code}
+use Rattle.fw_book.specs.declared.notes.Answer.TheVariants.{Number, Bits, Status, Info, Active, Code, Silent, GivenUp}
 use Rattle.fw_book.specs.declared.notes.Reason.{Reason}
 use Rattle.fw_book.specs.declared.notes.End.{End}
 use Rattle.fw_book.specs.declared.phase.Phase.{Phase}
@@ -75,7 +75,8 @@ abbrev answer_at : List ℕ → Answer
 answer_at [] = Code 0
 answer_at (kind ∷ body) =
     if kind == 1 then Number (from_be_bytes w32 body) else if kind == 2 then Bits (from_be_bytes w64 body) else if kind == 3 then Status (first body)
-    else if kind == 4 then Info None else if kind == 5 then Info (Some (campaign_at body)) else if kind == 6 then Active (campaign_at body) else Code (first body)
+    else if kind == 4 then Info None else if kind == 5 then Info (Some (campaign_at body)) else if kind == 6 then Active (campaign_at body)
+    else if kind == 7 then Code (first body) else if kind == 8 then Silent else GivenUp
 
 answer_again : (a : Answer) → AnswerFits a → answer_at (answer_bytes a) ≡ a
 answer_again (Number n) fits = ap (λ k. Number k) (from_be_bytes-to_be_bytes_4 n fits)
@@ -85,6 +86,8 @@ answer_again (Info None) fits = refl
 answer_again (Info (Some c)) fits = ap (λ (k : Campaign). Info (Some k)) (campaign_again c fits)
 answer_again (Active c) fits = ap (λ (k : Campaign). Active k) (campaign_again c fits)
 answer_again (Code n) fits = refl
+answer_again Silent fits = refl
+answer_again GivenUp fits = refl
 
 answer_unique : (a b : Answer) → AnswerFits a → AnswerFits b → answer_bytes a ≡ answer_bytes b → a ≡ b
 answer_unique a b ha hb is = sym (answer_again a ha) ∙ ap answer_at is ∙ answer_again b hb
@@ -143,6 +146,8 @@ answer_short (Info None) = omega arith
 answer_short (Info (Some c)) = let size : length (answer_bytes (Info (Some c))) ≡ 9 = refl in omega (arith, size)
 answer_short (Active c) = let size : length (answer_bytes (Active c)) ≡ 9 = refl in omega (arith, size)
 answer_short (Code n) = omega arith
+answer_short Silent = omega arith
+answer_short GivenUp = omega arith
 
 reason_short : (reason : Option Reason) → length (reason_bytes reason) ≤ 10
 reason_short None = omega arith

@@ -4,7 +4,7 @@ use Rattle.std.specs.Prelude.{ℕ, ◌<◌, ◌^◌, List, [], ◌∷◌, ◌++�
 use Rattle.std.specs.Int.{w32, w64, to_be_bytes}
 use Rattle.fw_names.specs.Name.{IsCampaign, campaign_bytes}
 use Rattle.fw_book.specs.declared.notes.Answer.{Answer}
-use Rattle.fw_book.specs.declared.notes.Answer.TheVariants.{Number, Bits, Status, Info, Active, Code}
+use Rattle.fw_book.specs.declared.notes.Answer.TheVariants.{Number, Bits, Status, Info, Active, Code, Silent, GivenUp}
 use Rattle.fw_book.specs.declared.notes.Reason.{Reason}
 use Rattle.fw_book.specs.declared.notes.End.{End}
 use Rattle.fw_book.specs.declared.phase.Phase.{Phase}
@@ -27,7 +27,7 @@ phase_number phase.Confirm = 11
 phase_number phase.Done = 12
 phase_number phase.Failed = 13
 
--- what is kept of a meter's answer: its kind, and then what it has
+-- what ended a row: the kind of answer, and then what is kept of it; of no answer, its kind alone
 abbrev pub answer_bytes : Answer → List ℕ
 answer_bytes (Number number) = 1 ∷ to_be_bytes w32 number
 answer_bytes (Bits count) = 2 ∷ to_be_bytes w64 count
@@ -36,6 +36,8 @@ answer_bytes (Info None) = 4 ∷ []
 answer_bytes (Info (Some campaign)) = 5 ∷ campaign_bytes campaign
 answer_bytes (Active campaign) = 6 ∷ campaign_bytes campaign
 answer_bytes (Code code) = 7 ∷ code ∷ []
+answer_bytes Silent = 8 ∷ []
+answer_bytes GivenUp = 9 ∷ []
 
 -- why a row failed, and nothing if that isn't told
 abbrev pub reason_bytes : Option Reason → List ℕ
@@ -58,6 +60,8 @@ AnswerFits (Info None) = Unit {0}
 AnswerFits (Info (Some campaign)) = IsCampaign campaign
 AnswerFits (Active campaign) = IsCampaign campaign
 AnswerFits (Code code) = code < 2 ^ 8
+AnswerFits Silent = Unit {0}
+AnswerFits GivenUp = Unit {0}
 
 abbrev pub ReasonFits : Option Reason → Type 0
 ReasonFits None = Unit {0}

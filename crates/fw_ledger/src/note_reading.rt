@@ -18,7 +18,9 @@ ghost use Rattle.fw_ledger.specs.Note.{
 };
 
 use crate::reading::{meter_at, u32_at};
-use crate::record::{ACTIVE, BITS, CODE, ENDED, IMAGE, NO_IMAGE, NUMBER, Note, OPENED, STATUS};
+use crate::record::{
+    ACTIVE, BITS, CODE, ENDED, GIVEN_UP, IMAGE, NO_IMAGE, NUMBER, Note, OPENED, SILENT, STATUS,
+};
 use fw_book::{Answer, End, Phase, Reason};
 use fw_names::{CampaignId, HeadId};
 
@@ -90,7 +92,7 @@ fn phase_of(number: u8) -> Option<Phase>
     }
 }
 
-/// What is kept of an answer.
+/// What ended a row.
 fn answer_of(bytes: &[u8]) -> Option<Answer>
     ensures found { IfSome result (λ answer. bytes.now ≡ answer_bytes answer) }
     ensures fits { IfSome result (λ answer. AnswerFits answer) }
@@ -104,6 +106,8 @@ fn answer_of(bytes: &[u8]) -> Option<Answer>
         [IMAGE, rest @ ..] => Some(Answer::Info(Some(last_campaign(rest)?))),
         [ACTIVE, rest @ ..] => Some(Answer::Active(last_campaign(rest)?)),
         [CODE, code] => Some(Answer::Code(*code)),
+        [SILENT] => Some(Answer::Silent),
+        [GIVEN_UP] => Some(Answer::GivenUp),
         _ => None,
     }
 }

@@ -16,7 +16,8 @@ ghost use Rattle.fw_ledger.specs.Note.{
 ghost use Rattle.fw_ledger.specs.Entry.{entry_bytes, note as noted};
 
 use crate::record::{
-    ACTIVE, BITS, CODE, ENDED, IMAGE, NO_IMAGE, NOTE, NUMBER, Note, OPENED, STATUS,
+    ACTIVE, BITS, CODE, ENDED, GIVEN_UP, IMAGE, NO_IMAGE, NOTE, NUMBER, Note, OPENED, SILENT,
+    STATUS,
 };
 use crate::writing::{put_campaign, put_number};
 use fw_book::{Answer, End, Phase, Reason};
@@ -64,7 +65,7 @@ fn put_info(bytes: &mut Vec<u8>, told: Option<CampaignId>) -> Result<(), AllocEr
     put_campaign(bytes, campaign)
 }
 
-/// Writes what is kept of an answer after what is there.
+/// Writes what ended a row after what is there.
 fn put_answer(bytes: &mut Vec<u8>, answer: Answer) -> Result<(), AllocError>
     ensures ok { OnOk result (bytes.new.items ≡ bytes.old.items ++ answer_bytes answer) }
     ensures fits { OnOk result (AnswerFits answer) }
@@ -91,6 +92,8 @@ fn put_answer(bytes: &mut Vec<u8>, answer: Answer) -> Result<(), AllocError>
             bytes.push(CODE)?;
             Ok(bytes.push(code)?)
         }
+        Answer::Silent => Ok(bytes.push(SILENT)?),
+        Answer::GivenUp => Ok(bytes.push(GIVEN_UP)?),
     }
 }
 

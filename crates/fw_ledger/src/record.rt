@@ -88,7 +88,7 @@ pub(crate) const OPENED: u8 = 1;
 
 pub(crate) const ENDED: u8 = 2;
 
-/// What the bytes of an answer in a note begin with.
+/// What the bytes of an answer in a note begin with, or of what stands for one where none ended the row.
 pub(crate) const NUMBER: u8 = 1;
 
 pub(crate) const BITS: u8 = 2;
@@ -102,6 +102,10 @@ pub(crate) const IMAGE: u8 = 5;
 pub(crate) const ACTIVE: u8 = 6;
 
 pub(crate) const CODE: u8 = 7;
+
+pub(crate) const SILENT: u8 = 8;
+
+pub(crate) const GIVEN_UP: u8 = 9;
 
 /// Whether these are the numbers of endings, or 0, and not 0 alone.
 pub(crate) fn are_endings(numbers: &[u8]) -> bool

@@ -14,7 +14,7 @@ use Rattle.fw_world.specs.Step.{activated, replies}
 use Rattle.fw_world.specs.declared.datagram.Direction.{Direction}
 use Rattle.fw_world.specs.declared.datagram.Direction.TheVariants.{ToMeter, ToHead}
 use Rattle.fw_field.specs.Field.{Field, Has, IsBeginning, with_daemon, with_leader}
-use Rattle.fw_field.specs.Moves.{Move, round, kill_meter, step, open_campaign, cancel_campaign, kill_head, TurnsAt, TakesAs, GoesOut, told_by, OpensAt, CancelsAt, HeadIsKilledAt, to_meter}
+use Rattle.fw_field.specs.Moves.{Move, round, kill_meter, step, open_campaign, cancel_campaign, give_up, kill_head, TurnsAt, TakesAs, GoesOut, told_by, OpensAt, CancelsAt, GivesRowUp, HeadIsKilledAt, to_meter}
 use Rattle.fw_sealed.specs.Links.{Links, Seal, CameSealed, IsGenuine, plain_of, sealer}
 
 pub record SealedField : Type 0 where
@@ -122,6 +122,7 @@ GoesSealed addresses links arrived old (kill_meter number) new = IsKilledSealed 
 GoesSealed addresses links arrived old (step number made) new = StepsSealed links arrived old number made new
 GoesSealed addresses links arrived old (open_campaign campaign release image meters) new = OpensAt old campaign release image meters new
 GoesSealed addresses links arrived old (cancel_campaign campaign) new = CancelsAt old campaign new
+GoesSealed addresses links arrived old (give_up number meter) new = GivesRowUp old number meter new
 GoesSealed addresses links arrived old (kill_head number) new = HeadIsKilledAt old number new
 
 -- ---- moves

@@ -4,7 +4,7 @@
 use crate::book::{answer_text, head, meter};
 use crate::subject::Subject;
 use fw_blocks::Width;
-use fw_head::{HeadCore, News, Phase, Told};
+use fw_head::{HeadCore, News, Phase, Told, WhyGivenUp};
 use fw_wrapper::split;
 use std::alloc::Global;
 use std::test::Fail;
@@ -20,6 +20,8 @@ use test_tables::{Reads, Words, each_part, present};
 /// - `cancel SERIAL`
 /// - `row`: the phase of the row of meter 1, if it is live, and how often it returned to `Start`
 /// - `waits`: whether an ask of meter 1 is outstanding
+/// - `activates`: whether its next tick asks it to activate
+/// - `give-up` and `silent`: the row of meter 1 that is given up, by an operator or since the meter is silent, if it has one
 impl Reads for Subject<HeadCore> {
     fn told(&mut self, alloc: Global, what: &str) -> Result<String, Fail> {
         let head = &mut self.0;
@@ -48,6 +50,9 @@ impl Reads for Subject<HeadCore> {
             }
             "row" => Ok(format!(in alloc; "{:?}", live(head)?)?),
             "waits" => Ok(format!(in alloc; "{}", head.is_waiting(meter(1)?))?),
+            "activates" => Ok(format!(in alloc; "{}", head.activates(meter(1)?))?),
+            "give-up" => given_up_text(alloc, head, WhyGivenUp::ByHand),
+            "silent" => given_up_text(alloc, head, WhyGivenUp::Silent),
             _ => Err("a head end takes no such step".into()),
         }
     }
@@ -63,6 +68,11 @@ fn why_text(alloc: Global, head: &mut HeadCore, datagram: &[u8]) -> Result<Strin
 
 fn told_text(alloc: Global, told: &Told) -> Result<String, Fail> {
     Ok(format!(in alloc; "{:?}, {:?}", told.news, told.reason)?)
+}
+
+fn given_up_text(alloc: Global, head: &mut HeadCore, why: WhyGivenUp) -> Result<String, Fail> {
+    let given = head.give_up(meter(1)?, why);
+    Ok(format!(in alloc; "{given:?}")?)
 }
 
 /// A new head end with windows of this width takes the steps of these tables, and so does another one in each session.

@@ -6,7 +6,7 @@ use crate::readings::records_text;
 use crate::setting::new_head;
 use crate::subject::Subject;
 use fw_book::Notes;
-use fw_head::News;
+use fw_head::{News, WhyGivenUp};
 use fw_journal::{MemoryDevice, MemoryKeeper, MemoryReplacer};
 use fw_kept::{KeptHead, read_kept};
 use fw_names::MeterId;
@@ -20,6 +20,7 @@ use test_tables::{Reads, Words, each_line, named, present};
 /// - `open SERIAL RELEASE IMAGE METER..`
 /// - `hear METER ANSWER..`: for each answer, which has a name, what is asked of the meter now, and the answer of the meter to the first ask.
 ///   The news of the last answer
+/// - `give-up METER` and `silent METER`: the row of the meter that is given up, by an operator or since the meter is silent, if it has one
 /// - `cancel SERIAL`, `commit` and `compact`
 /// - `take TEXT`: the bytes of this text that a commit returns, where they wait for it, and how many wait after it
 /// - `memory`: the book in memory
@@ -35,6 +36,8 @@ impl Reads for Subject<KeptHead<MemoryDevice>> {
         match words.word()? {
             "open" => opened_text(alloc, head, words),
             "hear" => heard_text(alloc, head, words),
+            "give-up" => given_up_text(alloc, head, words.number()?, WhyGivenUp::ByHand),
+            "silent" => given_up_text(alloc, head, words.number()?, WhyGivenUp::Silent),
             "cancel" => {
                 let serial = words.number()?;
                 if serial == 0 {
@@ -60,10 +63,12 @@ impl Reads for Subject<KeptHead<MemoryDevice>> {
     }
 }
 
-/// When campaigns are opened, and when datagrams are heard.
+/// When campaigns are opened, when datagrams are heard, and when rows are given up.
 const OPENED_AT: u64 = 1000;
 
 const HEARD_AT: u64 = 2000;
+
+const GIVEN_UP_AT: u64 = 3000;
 
 fn opened_text(
     alloc: Global,
@@ -120,6 +125,18 @@ fn news_of(
 ) -> Result<News, Fail> {
     match head.hear(alloc, meter, datagram, HEARD_AT) {
         Ok(told) => Ok(told.news),
+        Err(error) => Err(Fail::from(error)),
+    }
+}
+
+fn given_up_text(
+    alloc: Global,
+    head: &mut KeptHead<MemoryDevice>,
+    number: u32,
+    why: WhyGivenUp,
+) -> Result<String, Fail> {
+    match head.give_up(alloc, meter(number)?, why, GIVEN_UP_AT) {
+        Ok(given) => Ok(format!(in alloc; "{given:?}")?),
         Err(error) => Err(Fail::from(error)),
     }
 }
@@ -197,6 +214,8 @@ fn noted_text(alloc: Global, bytes: &[u8], words: Words<'_>) -> Result<String, F
 /// - with campaign 2 too, of the same image, for meter 4
 /// - with campaign 1 cancelled
 /// - with campaign 3 too, of image `x`, for meter 3, and meter 4 failed
+/// - with campaign 1 alone, and all of its meters failed
+/// - with meter 1 done instead
 const BOOKS: &str = "
     one = 46574232000000070000000100000005000000036162630003000000010000000002000000000300
     failed = 46574232000000070000000100000005000000036162630003000000010000000002020000000300
@@ -204,6 +223,8 @@ const BOOKS: &str = "
     two = 4657423200000007000000010000000500000003616263000300000001010000000202000000030000000002000000000000000361626300010000000400
     cancelled = 4657423200000007000000010000000500000003616263000300000001010000000202000000030300000002000000000000000361626300010000000400
     ended = 46574232000000070000000100000005000000036162630003000000010100000002020000000303000000020000000000000003616263000100000004020000000300000000000000017800010000000300
+    over = 46574232000000070000000100000005000000036162630003000000010200000002020000000302
+    given = 46574232000000070000000100000005000000036162630003000000010100000002020000000302
 ";
 
 /// The name of the book of these bytes, if it has one.
@@ -275,6 +296,45 @@ const KEPT: &str = "
     compact            => done
 ";
 
+/// A meter without a live row is given up by no call. One that is given up is failed in the book, at once in memory and with the next commit on
+/// the device, with the phase that it was in, and free for another campaign. It hears nothing and is sent nothing then, and the others go on.
+const GIVEN_UP: &str = "
+    give-up 2          => None
+    open 1 5 abc 1 2 3 => done
+    give-up 4          => None
+    memory             => one
+    give-up 2          => Some(GivenUp { campaign: CampaignId { head: 7, serial: 1 }, reason: Reason { phase: Size, answer: GivenUp } })
+    memory             => failed
+    known 1 2          => Some(1000) Some(End { at: 3000, reason: Some(Reason { phase: Size, answer: GivenUp }) })
+    left               => one
+    noted 1 2          => Some(1000) None
+    begun 2            => c001c0001200002c0000ff0200
+    give-up 2          => None
+    hear 2 none        => Nothing
+    commit             => done
+    left               => failed
+    noted 1 2          => Some(1000) Some(End { at: 3000, reason: Some(Reason { phase: Size, answer: GivenUp }) })
+    noted 1 1          => Some(1000) None
+    begun 2            =>
+    silent 2           => None
+    hear 1 four enabled done => Moved
+    silent 1           => Some(GivenUp { campaign: CampaignId { head: 7, serial: 1 }, reason: Reason { phase: Blocks, answer: Silent } })
+    give-up 3          => Some(GivenUp { campaign: CampaignId { head: 7, serial: 1 }, reason: Reason { phase: Size, answer: GivenUp } })
+    memory             => over
+    left               => failed
+    take abc           => ([97, 98, 99], 0)
+    left               => over
+    noted 1 1          => Some(1000) Some(End { at: 3000, reason: Some(Reason { phase: Blocks, answer: Silent }) })
+    records            => 465 010000000700000001000000050100000003616263000000010000000200000003 0500000007000000010100000000000003e8 0200000007000000010000000202 05000000070000000102000000020000000000000bb80109 0200000007000000010000000102 05000000070000000102000000010000000000000bb80408 0200000007000000010000000302 05000000070000000102000000030000000000000bb80109
+    compact            => done
+    left               => over
+    noted 1 3          => Some(1000) Some(End { at: 3000, reason: Some(Reason { phase: Size, answer: GivenUp }) })
+    cancel 1           => NotLive
+    open 2 0 x 2       => done
+    give-up 2          => Some(GivenUp { campaign: CampaignId { head: 7, serial: 2 }, reason: Reason { phase: Size, answer: GivenUp } })
+    known 1 2          => Some(1000) Some(End { at: 3000, reason: Some(Reason { phase: Size, answer: GivenUp }) })
+";
+
 /// `CALLS TORN CALL`: what comes of this call, where meters 2 and 1 of campaign 1 were marked and wait, and the device fails after so many
 /// calls, the last one torn or not; what comes of a commit after it; the book in memory; and the one that is read.
 #[derive(Clone, Copy)]
@@ -317,11 +377,14 @@ const CUTS: &str = "
     0 1 compact        => NotReplaced BookFault marked one
     1 1 compact        => BookFault BookFault marked marked
     2 1 compact        => done done marked marked
+    0 1 give-up 3      => Some(GivenUp { campaign: CampaignId { head: 7, serial: 1 }, reason: Reason { phase: Size, answer: GivenUp } }) BookFault given one
+    4 1 give-up 3      => Some(GivenUp { campaign: CampaignId { head: 7, serial: 1 }, reason: Reason { phase: Size, answer: GivenUp } }) done given given
 ";
 
 #[test]
 fn a_kept_head_end_outlives_each_call(rt: HostRuntime) -> Result<(), Fail> {
     let alloc = rt.alloc();
     each_line(alloc, &mut Subject(new_head(alloc)?), KEPT)?;
+    each_line(alloc, &mut Subject(new_head(alloc)?), GIVEN_UP)?;
     each_line(alloc, &mut Cuts, CUTS)
 }

@@ -12,6 +12,8 @@ use test_tables::{Reads, Words, each_line};
 /// - `open SERIAL TIME`, of head end 7, which notes an opening
 /// - `end SERIAL METER TIME`, which notes the end of a row that is done
 /// - `refuse SERIAL METER TIME CODE`, which notes the end of a row whose initiate was answered by this code
+/// - `silent SERIAL METER TIME`, which notes the end of a row whose meter told no block size for too long
+/// - `give-up SERIAL METER TIME`, which notes the end of a row that an operator gave up while its blocks were sent
 /// - `opened SERIAL`: when the campaign was opened, if that is known
 /// - `ended SERIAL METER`: how the row ended, if that is known
 impl Reads for Subject<Notes> {
@@ -31,6 +33,18 @@ impl Reads for Subject<Notes> {
                 let ([serial, whose, at], code): ([u32; 3], u8) = words.read()?;
                 let answer = Answer::Code(code);
                 let phase = Phase::Start;
+                note_end(notes, serial, whose, at, Some(Reason { phase, answer }))?;
+            }
+            "silent" => {
+                let [serial, whose, at]: [u32; 3] = words.read()?;
+                let answer = Answer::Silent;
+                let phase = Phase::Size;
+                note_end(notes, serial, whose, at, Some(Reason { phase, answer }))?;
+            }
+            "give-up" => {
+                let [serial, whose, at]: [u32; 3] = words.read()?;
+                let answer = Answer::GivenUp;
+                let phase = Phase::Blocks;
                 note_end(notes, serial, whose, at, Some(Reason { phase, answer }))?;
             }
             "opened" => {
@@ -78,6 +92,11 @@ const NOTED: &str = "
     end 1 2 201    =>
     ended 1 2      => Some(End { at: 201, reason: None })
     opened 2       => None
+    silent 2 3 400 =>
+    ended 2 3      => Some(End { at: 400, reason: Some(Reason { phase: Size, answer: Silent }) })
+    give-up 2 3 401 =>
+    ended 2 3      => Some(End { at: 401, reason: Some(Reason { phase: Blocks, answer: GivenUp }) })
+    ended 2 0      => Some(End { at: 300, reason: Some(Reason { phase: Start, answer: Code(250) }) })
 ";
 
 #[test]

@@ -135,7 +135,7 @@ const OPENED: &str = "
 
 /// An opening with an image and two meters, one with the image of an earlier campaign, both marks, a cancelling and endings. Notes of an
 /// opening, of a row that ended for no reason that is told, and for each kind of answer: a number, the bits of blocks, a status, no image, one
-/// of campaign (7, 3), an image of the factory that runs, one of campaign (8, 1), and codes.
+/// of campaign (7, 3), an image of the factory that runs, one of campaign (8, 1), and codes. Notes of a silent row and of one given up.
 const GOOD: &str = "
     record bytes 0100000007000000030000000501000000036162630000000100000102 => 0100000007000000030000000501000000036162630000000100000102
     record bytes 010000000700000004000000000200000003ffffffff => 010000000700000004000000000200000003ffffffff
@@ -155,11 +155,13 @@ const GOOD: &str = "
     record bytes 050000000700000003020000010200000000000007d00307fa => 050000000700000003020000010200000000000007d00307fa
     record bytes 050000000700000003020000010200000000000007d00c0700 => 050000000700000003020000010200000000000007d00c0700
     record bytes 050000000700000003020000010200000000000007d00d0700 => 050000000700000003020000010200000000000007d00d0700
+    record bytes 050000000700000003020000010200000000000007d00408 => 050000000700000003020000010200000000000007d00408
+    record bytes 050000000700000003020000010200000000000007d00109 => 050000000700000003020000010200000000000007d00109
 ";
 
 /// Another kind, head end 0, serial number 0, another source, an image that is cut short, half a meter, another ending, a byte too few, and
 /// one too many. Endings of no row, of rows of which none ended, and of one that ended otherwise. Notes of nothing, of another kind, of a time
-/// that is cut short, of a phase 0 and 14, of another kind of answer, of a campaign with one number 0, and with a byte too many.
+/// that is cut short, of a phase 0 and 14, of other kinds of answers, of a campaign with one number 0, and with a byte too many.
 const BAD: &str = "
     record bytes                                          => BadRecord
     record bytes 050000000700000003                       => BadRecord
@@ -181,13 +183,16 @@ const BAD: &str = "
     record bytes 0500000007000000030100000000000003e800 => BadRecord
     record bytes 050000000700000003020000010200000000000007d0000700 => BadRecord
     record bytes 050000000700000003020000010200000000000007d00e0700 => BadRecord
-    record bytes 050000000700000003020000010200000000000007d0010800 => BadRecord
+    record bytes 050000000700000003020000010200000000000007d0010a => BadRecord
+    record bytes 050000000700000003020000010200000000000007d0010a00 => BadRecord
     record bytes 050000000700000003020000010200000000000007d00100 => BadRecord
     record bytes 050000000700000003020000010200000000000007d009050000000000000003 => BadRecord
     record bytes 050000000700000003020000010200000000000007d00b060000000700000000 => BadRecord
     record bytes 050000000700000003020000010200000000000007d001 => BadRecord
     record bytes 050000000700000003020000010200000000000007d0030700ff => BadRecord
     record bytes 050000000700000003020000010200000000000007d00904ff => BadRecord
+    record bytes 050000000700000003020000010200000000000007d00408ff => BadRecord
+    record bytes 050000000700000003020000010200000000000007d00109ff => BadRecord
     record bytes 050000000700000003020000010200000000000007d00101000004 => BadRecord
 ";
 

@@ -44,10 +44,13 @@ const AGAIN_TO_CONFIRM: &str = "
     hear c401c5000600000002 => Moved, Some(Verify)
     tick => c301c6001200002c0000ff03010f00
     hear c701c60000 => Moved, Some(Info)
+    activates => false
     tick => c001c7001200002c0000ff0700
     hear c401c7000101020306000000030929010000000700000002ba7816bf8f01cfea414140de5dae2223b00361a396177a9cb410ff61f20015ad0920ba7816bf8f01cfea414140de5dae2223b00361a396177a9cb410ff61f20015ad => Moved, Some(Activate)
+    activates => true
     tick => c301c8001200002c0000ff04010f00
     hear c701c80000 => Moved, Some(Confirm)
+    activates => false
     tick => c001c900010100000200ff0200
 ";
 
@@ -89,6 +92,20 @@ const CANCELLED: &str = "
     cancel 1                                                                                            => done
     hear c401c9000929010000000700000001ba7816bf8f01cfea414140de5dae2223b00361a396177a9cb410ff61f20015ad => Nothing, None
     tick                                                                                                =>
+";
+
+/// The meter runs the image, but its claim comes too late. Then it is free for another campaign.
+const GIVEN_UP: &str = "
+    silent       => Some(GivenUp { campaign: CampaignId { head: 7, serial: 1 }, reason: Reason { phase: Confirm, answer: Silent } })
+    silent       => None
+    row          => None
+    waits        => false
+    activates    => false
+    hear c401c9000929010000000700000001ba7816bf8f01cfea414140de5dae2223b00361a396177a9cb410ff61f20015ad => Nothing, None
+    tick         =>
+    open 2 0 abc => 010000000700000002ba7816bf8f01cfea414140de5dae2223b00361a396177a9cb410ff61f20015ad
+    give-up      => Some(GivenUp { campaign: CampaignId { head: 7, serial: 2 }, reason: Reason { phase: Size, answer: GivenUp } })
+    row          => None
 ";
 
 /// A claim of another campaign that offers the same bytes.
@@ -172,6 +189,7 @@ fn what_becomes_of_a_row(rt: HostRuntime) -> Result<(), Fail> {
         &[TO_CONFIRM, ANOTHER_SHAPE],
         &[TO_CONFIRM, RESTARTED],
         &[TO_CONFIRM, CANCELLED],
+        &[TO_CONFIRM, GIVEN_UP],
         &[TO_CONFIRM, AGAIN_TO_CONFIRM, ANOTHER_CAMPAIGN],
         &[TOO_LOW],
         &[WAITS],
