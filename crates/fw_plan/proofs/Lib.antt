@@ -3,5 +3,7 @@ mod Contacts
 mod Gates
 mod Lists
 mod Numbers
+mod Once
+mod OwnStates
 mod Parts
 mod Serials

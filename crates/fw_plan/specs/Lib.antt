@@ -4,5 +4,6 @@ pub mod Window
 pub mod Silence
 pub mod Openings
 pub mod Ranges
+pub mod Meters
 -- For private clauses alone: no public clause cites it.
 pub mod Private

@@ -1,5 +1,9 @@
 -- For private clauses alone: what the steps of loops make.
-use Rattle.std.specs.Prelude.{◌≡◌, ℕ, ◌+◌, ◌-◌, Bool, true, false, ◌<◌, ◌≤◌, ◌^◌, nat_le, Option, Some, None, SomeIff, MatchOption, if◌then◌else◌}
+use Rattle.std.specs.Prelude.{◌≡◌, ℕ, ◌+◌, ◌-◌, Bool, true, false, ◌<◌, ◌≤◌, ◌^◌, nat_le, ◌==◌, List, [], ◌∷◌, ◌++◌, Option, Some, None, SomeIff, MatchOption, if◌then◌else◌}
+use Rattle.std.specs.List.{list_any}
+use Rattle.std.specs.Option.{option_map_or}
+use Rattle.fw_book.specs.declared.row.Row.{Row}
+use Rattle.fw_book.specs.declared.row.RowState.{RowState}
 use Rattle.fw_book.specs.Contents.{Contents, has_serial}
 use Rattle.fw_book.specs.Rows.{is_live}
 use Rattle.fw_plan.specs.declared.gate.WaveRow.{WaveRow}
@@ -48,3 +52,20 @@ IsNextFrom book (Some serial) free = MatchOption free (NoneFree book serial) (λ
 abbrev pub IsBehind : Option ℕ → ℕ → Type 0
 IsBehind None last = last ≡ 2 ^ 32
 IsBehind (Some next) last = (next ≡ last) × (next < 2 ^ 32) × (1 ≤ next)
+
+-- numbers with one more, unless it is there
+abbrev pub with_new : List ℕ → ℕ → List ℕ
+with_new numbers number = if list_any (λ other. other == number) numbers then numbers else numbers ++ number ∷ []
+
+-- whether this is the state of a live row
+abbrev pub is_live_state : Option RowState → Bool
+is_live_state found = option_map_or is_live found false
+
+-- how far a meter's own row is with one row more behind those before: a live one stays
+abbrev pub after_row : Option RowState → Row → ℕ → Option RowState
+after_row state row meter = if row.meter == meter then (if is_live_state state then state else Some row.state) else state
+
+-- and with these
+abbrev pub after_rows : Option RowState → List Row → ℕ → Option RowState
+after_rows state [] meter = state
+after_rows state (row ∷ rows) meter = after_rows (after_row state row meter) rows meter

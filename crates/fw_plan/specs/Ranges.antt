@@ -1,5 +1,5 @@
 -- Public vocabulary: which campaigns serial numbers and ranges of them name.
-use Rattle.std.specs.Prelude.{ℕ, Bool, ◌&&◌, nat_le, List, [], ◌∷◌, map, filter}
+use Rattle.std.specs.Prelude.{ℕ, Bool, ◌&&◌, ◌==◌, nat_le, not, List, [], ◌∷◌, map, filter}
 use Rattle.std.specs.List.{flat_map}
 use Rattle.fw_book.specs.Contents.{Contents, Offered}
 use Rattle.fw_book.specs.Rows.{has_live}
@@ -20,5 +20,14 @@ abbrev pub serials_named : Contents → SerialRange → List ℕ
 serials_named book (One serial) = serial ∷ []
 serials_named book (Span first last) = range_in first last book.campaigns
 
+-- those that these name
+abbrev pub all_named : Contents → List SerialRange → List ℕ
+all_named book named = flat_map (λ (one : SerialRange). serials_named book one) named
+
+-- these numbers, each where it stands first
+abbrev pub each_once : List ℕ → List ℕ
+each_once [] = []
+each_once (number ∷ others) = number ∷ filter (λ other. not (other == number)) (each_once others)
+
 abbrev pub serials_of : Contents → List SerialRange → List ℕ
-serials_of book named = flat_map (λ (one : SerialRange). serials_named book one) named
+serials_of book named = each_once (all_named book named)

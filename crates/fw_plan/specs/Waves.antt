@@ -1,11 +1,16 @@
 -- Public vocabulary: the waves of a rollout, and which of its rows may be asked.
-use Rattle.std.specs.Prelude.{◌≡◌, ℕ, ◌<◌, ◌≤◌, ◌*◌, Bool, true, false, nat_lt, ◌&&◌, List, count_by, All, Contains, Option, Some, None}
+use Rattle.std.specs.Prelude.{◌≡◌, ℕ, ◌<◌, ◌≤◌, ◌*◌, ◌==◌, Bool, true, false, nat_lt, ◌&&◌, List, [], ◌∷◌, count_by, All, Contains, Option, Some, None, if◌then◌else◌}
+use Rattle.std.specs.List.{flat_map}
+use Rattle.std.specs.Option.{option_or}
+use Rattle.fw_book.specs.declared.row.Row.{Row}
 use Rattle.fw_book.specs.declared.row.RowState.{RowState}
 use Rattle.fw_book.specs.declared.row.RowState.TheVariants.{Live, Done, Failed, Cancelled}
-use Rattle.fw_book.specs.Rows.{is_live}
+use Rattle.fw_book.specs.Contents.{Contents, Offered}
+use Rattle.fw_book.specs.Rows.{is_live, is_live_in}
 use Rattle.fw_plan.specs.declared.gate.Gate.{Gate}
 use Rattle.fw_plan.specs.declared.gate.Gate.TheVariants as gate
 use Rattle.fw_plan.specs.declared.gate.WaveRow.{WaveRow}
+use Rattle.fw_plan.specs.declared.rows.WaveMeter.{WaveMeter}
 use Rattle.fw_plan.specs.declared.threshold.MaxFailed.{MaxFailed}
 use Rattle.fw_plan.specs.declared.threshold.MaxFailed.TheVariants as max
 
@@ -70,3 +75,30 @@ abbrev pub Asks : Gate → WaveRow → Type 0
 Asks (gate.Open wave) row = (row.wave ≡ wave) × (is_live row.state ≡ true)
 Asks (gate.TooManyFailed stop) row = ⊥
 Asks gate.Over row = ⊥
+
+-- ---- the rows of a rollout
+
+-- the rows of these campaigns, in the order of their opening
+abbrev pub rows_of : List (ℕ × Offered) → List Row
+rows_of campaigns = flat_map (λ (entry : ℕ × Offered). entry.1.rows) campaigns
+
+-- the state of the last of these rows that is the meter's
+abbrev pub last_state : List Row → ℕ → Option RowState
+last_state [] meter = None
+last_state (row ∷ rows) meter = option_or (last_state rows meter) (if row.meter == meter then Some row.state else None)
+
+-- how far the meter's own row is, if it has one: it is live where one of them is, and else the last counts
+abbrev pub own_state_in : List Row → ℕ → Option RowState
+own_state_in rows meter = if is_live_in rows meter then Some Live else last_state rows meter
+
+abbrev pub own_state : Contents → ℕ → Option RowState
+own_state book meter = own_state_in (rows_of book.campaigns) meter
+
+-- the row of a meter of this wave, if it has one
+abbrev pub row_in_wave : ℕ → Option RowState → List WaveRow
+row_in_wave wave None = []
+row_in_wave wave (Some state) = record { wave = wave; state = state } ∷ []
+
+-- those of these meters, in their order
+abbrev pub wave_rows : Contents → List WaveMeter → List WaveRow
+wave_rows book meters = flat_map (λ (of : WaveMeter). row_in_wave of.wave (own_state book of.meter)) meters

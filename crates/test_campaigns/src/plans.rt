@@ -4,8 +4,8 @@ use crate::book::{after, image, meter, meters};
 use fw_book::{Book, RowState};
 use fw_names::MeterId;
 use fw_plan::{
-    Contact, Deadline, MaxFailed, SerialRange, WaveRow, Window, gate_of, is_over, lacking,
-    missing_parts, next_free, serials_of, unlisted,
+    Contact, Deadline, MaxFailed, SerialRange, WaveMeter, WaveRow, Window, gate_of, is_over,
+    lacking, missing_parts, next_free, serials_of, unlisted, wave_rows,
 };
 use std::alloc::Global;
 use std::test::Fail;
@@ -22,6 +22,7 @@ use test_tables::{Reads, Words, each_part};
 /// - `unlisted METER..; CALLS`: the live rows whose meter isn't one of these
 /// - `parts SERIAL RELEASE IMAGE METER..; CALLS`: the campaigns that lack, each with how many meters it has and the first of them
 /// - `many SERIAL COUNT; CALLS`: those of release 0 and image `abc` for the meters 1 to COUNT
+/// - `rows WAVE-METER..; CALLS`: the rows of these meters
 /// - `serials RANGE..; CALLS`: which campaigns these name, where `7` is one and `7-9` a range
 #[derive(Clone, Copy)]
 struct Plans;
@@ -156,6 +157,7 @@ fn book_text(alloc: Global, how: &str, mut words: Words<'_>, book: &Book) -> Res
             let (serial, count): (u32, u32) = words.read()?;
             parts_text(alloc, book, serial, 0, "abc", &counted(alloc, count)?)
         }
+        "rows" => rows_text(alloc, book, words.rest()),
         "serials" => serials_text(alloc, book, words.rest()),
         _ => Err("a plan has nothing of this name".into()),
     }
@@ -189,6 +191,24 @@ fn counted(alloc: Global, count: u32) -> Result<Vec<MeterId>, Fail> {
         list.push(meter(number)?)?;
     }
     Ok(list)
+}
+
+fn rows_text(alloc: Global, book: &Book, text: &str) -> Result<String, Fail> {
+    let mut list = Vec::new(alloc);
+    for word in text.split(' ') {
+        if let Some((wave, number)) = word.split_once('-') {
+            let meter = meter(number.parse::<u32>()?)?;
+            list.push(WaveMeter {
+                meter,
+                wave: wave.parse::<u8>()?,
+            })?;
+        }
+    }
+    let mut shown = Vec::new(alloc);
+    for row in &wave_rows(alloc, book, &list)? {
+        shown.push((row.wave, row.state))?;
+    }
+    Ok(format!(in alloc; "{:?}", shown.as_slice())?)
 }
 
 fn serials_text(alloc: Global, book: &Book, text: &str) -> Result<String, Fail> {
@@ -303,12 +323,24 @@ const PARTS: &str = "
     many 4294967295 256; open 7 4294967295 0 abd 9        => NoSerial
 ";
 
-/// A number stands for itself, and a range for the campaigns in it that have a live row.
+/// A meter's own row is its live one, and else that of the campaign that was opened last.
+const ROWS: &str = "
+    rows 0-1 1-2 1-3; open 7 1 0 abc 1 2                                  => [(0, Live), (1, Live)]
+    rows 1-2 0-1; open 7 1 0 abc 1 2; fail 7 1 1                          => [(1, Live), (0, Failed)]
+    rows 5-1; open 7 9 0 abc 1; fail 7 9 1; open 7 2 0 abd 1; cancel 7 2  => [(5, Cancelled)]
+    rows 5-1; open 7 9 0 abc 1; cancel 7 9; open 7 2 0 abd 1              => [(5, Live)]
+    rows 5-1; open 7 9 0 abc 1; cancel 7 9; open 7 2 0 abd 1; fail 7 2 1  => [(5, Failed)]
+    rows 5-1;                                                             => []
+";
+
+/// A number stands for itself, and a range for the campaigns in it that have a live row. Each is named once, where it stands first.
 const SERIALS: &str = "
     serials 7 9-12; open 7 9 0 abc 1; open 7 12 0 abc 2; open 7 13 0 abc 3             => [7, 9, 12]
     serials 9-12; open 7 12 0 abc 2; open 7 9 0 abc 1; open 7 10 0 abc 3; fail 7 10 3  => [12, 9]
     serials 12-9; open 7 10 0 abc 1                                                    => []
-    serials 8 8;                                                                       => [8, 8]
+    serials 8 8;                                                                       => [8]
+    serials 10 9-12 7 10; open 7 9 0 abc 1; open 7 10 0 abc 2                          => [10, 9, 7]
+    serials 9-12 1-10; open 7 9 0 abc 1; open 7 12 0 abc 2; open 7 5 0 abc 3           => [9, 12, 5]
 ";
 
 #[test]
@@ -317,7 +349,7 @@ fn rollouts_are_decided(rt: HostRuntime) -> Result<(), Fail> {
         rt.alloc(),
         &mut Plans,
         &[
-            GATES, WINDOWS, SILENCES, LACKING, FREE, UNLISTED, PARTS, SERIALS,
+            GATES, WINDOWS, SILENCES, LACKING, FREE, UNLISTED, PARTS, ROWS, SERIALS,
         ],
     )
 }

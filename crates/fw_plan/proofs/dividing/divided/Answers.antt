@@ -3,7 +3,7 @@ use Rattle.std.specs.Slice.Iter.{chunks_rest}
 use Rattle.fw_plan.specs.Private.{IsBehind}
 use Rattle.fw_plan.proofs.Numbers.{found, goes_on}
 use Rattle.fw_plan.proofs.Parts.{behind_parts, joined_more, serials_more, sizes_more}
-use Rattle.fw_plan.proofs.part.divided.Goals as goal
+use Rattle.fw_plan.proofs.dividing.divided.Goals as goal
 
 pub loop-chunk-preserved : goal.loop-chunk-preserved
 loop-chunk-preserved c =

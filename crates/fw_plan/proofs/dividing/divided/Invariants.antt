@@ -4,7 +4,7 @@ use Rattle.std.specs.List.{flat_map}
 use Rattle.fw_plan.specs.declared.part.Part.{Part}
 use Rattle.fw_plan.specs.Openings.{AreNextFree, HasMeters, behind}
 use Rattle.fw_plan.specs.Private.{IsBehind}
-use Rattle.fw_plan.proofs.part.divided.Given as goal
+use Rattle.fw_plan.proofs.dividing.divided.Given as goal
 
 -- the parts so far have the meters before those that are left, and are full while some are left
 abbrev pub invariant-loop-chunk : goal.invariant-loop-chunk
