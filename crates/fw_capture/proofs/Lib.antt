@@ -5,3 +5,4 @@ pub mod Readings
 pub mod ReadBack
 pub mod Wholeness
 pub mod Filling
+pub mod Streaming

@@ -9,12 +9,12 @@ use Rattle.std.proofs.Math.Seq.{drop-append_seam, take-length}
 use Rattle.fw_capture.specs.declared.error.WholeError.{WholeError}
 use Rattle.fw_capture.specs.declared.error.WholeError.TheVariants as error
 use Rattle.fw_capture.specs.declared.fault.CaptureFault.{CaptureFault}
-use Rattle.fw_capture.specs.declared.fault.CaptureFault.TheVariants.{ShortRecord, BadFraction, CutPacket, BadMagic, BadVersion, UnknownLink}
+use Rattle.fw_capture.specs.declared.fault.CaptureFault.TheVariants.{ShortRecord, BadFraction, CutPacket, ShortHeader, Pcapng, BadMagic, BadVersion, UnknownLink}
 use Rattle.fw_capture.specs.declared.format.Format.{Format}
 use Rattle.fw_capture.specs.declared.whole.Front.TheVariants as front
 use Rattle.fw_capture.specs.View.{Told}
 use Rattle.fw_capture.specs.Place.{Place}
-use Rattle.fw_capture.specs.Reading.{half_at, number_at, magic_at, link_of, header_at, unless, or_fault, fractions, fraction_at, size_at, time_at, record_at, ◌>>=◌}
+use Rattle.fw_capture.specs.Reading.{half_at, number_at, is_pcapng, magic_at, link_of, header_at, unless, or_fault, fractions, fraction_at, size_at, time_at, record_at, ◌>>=◌}
 use Rattle.fw_capture.specs.Steps.{after}
 use Rattle.fw_capture.specs.Private.{IsFront, IsOfReading, record_size}
 use Rattle.fw_capture.specs.Whole.{IsPassed, IsRecord, IsTorn, IsForeign, IsForeignAt, IsWholeTo, Passes, all_zeros, without_zeros, is_part, longest_packet, says_twice}
@@ -109,7 +109,7 @@ twice_before f xs ys header = rw (size_before f xs ys header, number_before f.li
 abbrev NoneOf : Format → List ℕ → Type 0
 NoneOf f bytes = (x : ℕ × Told × ℕ) → record_at f bytes ≡ Ok x → says_twice f bytes ≡ false
 
-nothing_more : (xs ys : List ℕ) → ys ≡ [] → xs ++ ys ≡ xs
+pub nothing_more : (xs ys : List ℕ) → ys ≡ [] → xs ++ ys ≡ xs
 nothing_more xs ys none = ap (λ (x : List ℕ). xs ++ x) none ∙ append-nil xs
 
 -- the same header is read with the packet behind it
@@ -365,8 +365,12 @@ unfolding header_at
 header_before xs ys long =
     let magic : magic_at (xs ++ ys) ≡ magic_at xs =
     rw (number_before true 0 xs ys (omega arith), number_before false 0 xs ys (omega arith)) refl in
+    let front : is_pcapng (xs ++ ys) ≡ is_pcapng xs = ap (λ (n : ℕ). n == 0x0a0d0d0a) (number_before true 0 xs ys (omega arith)) in
+    let behind : (or_fault BadMagic (magic_at (xs ++ ys)) >>= behind_magic (xs ++ ys)) ≡ (or_fault BadMagic (magic_at xs) >>= behind_magic xs) =
+    ap (λ (m : Option (Bool × Bool)). or_fault BadMagic m >>= behind_magic (xs ++ ys)) magic ∙ magic_behind xs ys (magic_at xs) long in
     rw (le-ltb (length (xs ++ ys)) 24 (omega (arith, length-append xs ys, long)), le-ltb (length xs) 24 long)
-    (ap (λ (m : Option (Bool × Bool)). or_fault BadMagic m >>= behind_magic (xs ++ ys)) magic ∙ magic_behind xs ys (magic_at xs) long)
+    (ap (λ (b : Bool). if b then Err Pcapng else (or_fault BadMagic (magic_at (xs ++ ys)) >>= behind_magic (xs ++ ys))) front
+    ∙ ap (λ (r : Result Format CaptureFault). if is_pcapng xs then Err Pcapng else r) behind)
 
 header_by : (bytes left : List ℕ) (b : Bool) → nat_lt (length bytes) 24 ≡ b → (length bytes < 24 → left ≡ []) → header_at (bytes ++ left) ≡ header_at bytes
 header_by bytes left true less end = ap (λ (x : List ℕ). header_at x) (nothing_more bytes left (end (grind (arith, nat_tests, less))))
@@ -374,6 +378,13 @@ header_by bytes left false whole end = header_before bytes left (grind (arith, n
 
 pub same_header : (bytes left : List ℕ) → (length bytes < 24 → left ≡ []) → header_at (bytes ++ left) ≡ header_at bytes
 same_header bytes left end = header_by bytes left (nat_lt (length bytes) 24) refl end
+
+-- a header that is right has 24 bytes
+pub header_long : (bytes : List ℕ) (f : Format) → header_at bytes ≡ Ok f → 24 ≤ length bytes
+unfolding header_at
+header_long bytes f is =
+    let long = passes (nat_lt (length bytes) 24) ShortHeader _ f is in
+    grind (arith, nat_tests, long.0)
 
 -- ---- the records of a capture
 

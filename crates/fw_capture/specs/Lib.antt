@@ -7,6 +7,7 @@ pub mod Reading
 pub mod Place
 pub mod Steps
 pub mod Whole
+pub mod Streams
 pub mod Laws
 -- For private clauses alone: no public clause cites it.
 pub mod Private

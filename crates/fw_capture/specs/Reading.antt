@@ -3,7 +3,7 @@ use Rattle.std.specs.Prelude.{ℕ, ◌+◌, ◌*◌, ◌/◌, ◌%◌, Bool, tru
 use Rattle.std.specs.Int.{w16, w32, w64, from_be_bytes, from_le_bytes}
 use Rattle.std.specs.Str.{bytes_eq}
 use Rattle.fw_capture.specs.declared.fault.CaptureFault.{CaptureFault}
-use Rattle.fw_capture.specs.declared.fault.CaptureFault.TheVariants.{ShortHeader, BadMagic, BadVersion, UnknownLink, ShortRecord, BadFraction, CutPacket, ShortLink, BadIpVersion, ShortIp, BadIpHeader, BadIpLength, BadUdpLength}
+use Rattle.fw_capture.specs.declared.fault.CaptureFault.TheVariants.{ShortHeader, Pcapng, BadMagic, BadVersion, UnknownLink, ShortRecord, BadFraction, CutPacket, ShortLink, BadIpVersion, ShortIp, BadIpHeader, BadIpLength, BadUdpLength}
 use Rattle.fw_capture.specs.declared.format.Format.{Format}
 use Rattle.fw_capture.specs.declared.format.Link.{Link}
 use Rattle.fw_capture.specs.declared.format.Link.TheVariants as link
@@ -167,6 +167,10 @@ magic_at bytes =
     if number_at true 0 bytes == 0xa1b23c4d then Some (true, true) else (if number_at true 0 bytes == 0xa1b2c3d4 then Some (true, false) else (
     if number_at false 0 bytes == 0xa1b23c4d then Some (false, true) else (if number_at false 0 bytes == 0xa1b2c3d4 then Some (false, false) else None)))
 
+-- the type of the block that a file in the form pcapng begins with, which is the same in either order of bytes
+abbrev pub is_pcapng : List ℕ → Bool
+is_pcapng bytes = number_at true 0 bytes == 0x0a0d0d0a
+
 -- the link types that are read
 abbrev pub link_of : ℕ → Option Link
 link_of n =
@@ -176,7 +180,7 @@ link_of n =
 -- the file header, of 24 bytes: magic number, version 2.4, three fields that are not looked at, and link type
 unfoldable pub header_at : List ℕ → Result Format CaptureFault
 header_at bytes =
-    unless ((nat_lt (length bytes) 24, ShortHeader) ∷ [])
+    unless ((nat_lt (length bytes) 24, ShortHeader) ∷ (is_pcapng bytes, Pcapng) ∷ [])
     (or_fault BadMagic (magic_at bytes) >>= λ magic.
     unless ((not (half_at magic.0 4 bytes == 2 && half_at magic.0 6 bytes == 4), BadVersion) ∷ [])
     (or_fault UnknownLink (link_of (number_at magic.0 20 bytes)) >>= λ l. Ok (record { little = magic.0; nano = magic.1; link = l })))

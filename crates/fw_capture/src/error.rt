@@ -54,6 +54,23 @@ impl fmt::Display for WholeError {
     }
 }
 
+/// The refusals of `take_header` and `take_record`.
+#[derive(Clone, Copy, Debug, Drop, Error)]
+pub enum StreamError {
+    /// The record has more than 64 MiB.
+    TooLong,
+    /// The reader failed, or came to no end.
+    Input,
+    /// No memory was found for what is taken.
+    OutOfMemory,
+}
+
+impl fmt::Display for StreamError {
+    fn fmt<W: fmt::Write>(&self, f: &mut fmt::Formatter<W>) -> fmt::Result {
+        fmt::Debug::fmt(self, f)
+    }
+}
+
 impl From<AllocError> for WholeError {
     ghost use Rattle.fw_capture.specs.declared.error.WholeError.TheVariants as whole;
 

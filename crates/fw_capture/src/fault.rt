@@ -8,6 +8,8 @@ use thiserror::Error;
 pub enum CaptureFault {
     /// The file header lacks a byte.
     ShortHeader,
+    /// The file begins as one in the form pcapng.
+    Pcapng,
     /// The file doesn't begin with a magic number of pcap.
     BadMagic,
     /// The version is not 2.4.

@@ -20,13 +20,15 @@ mod number;
 mod packet;
 mod reader;
 mod reading;
+mod stream;
 mod whole;
 mod writing;
 
-pub use error::{AppendError, WholeError};
+pub use error::{AppendError, StreamError, WholeError};
 pub use fault::{CaptureError, CaptureFault};
 pub use format::{Format, Link};
 pub use packet::{Captured, Content, Note, Packet};
 pub use reader::Reader;
+pub use stream::{take_header, take_record};
 pub use whole::whole_len;
 pub use writing::{append_packet, file_header};

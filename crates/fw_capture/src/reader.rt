@@ -1,5 +1,6 @@
 //! A capture that is read packet by packet.
 
+ghost use Rattle.std.specs.Prelude.{◌≡◌, ◌+◌, ◌<◌, ◌^◌, length};
 ghost use Rattle.fw_capture.specs.Steps.{OpensAs, NextGives};
 
 use crate::fault::CaptureError;
@@ -44,6 +45,25 @@ impl<'a> Reader<'a> {
             }),
             Err(fault) => Err(CaptureError { fault, offset: 0 }),
         }
+    }
+
+    /// A capture from a record on that begins at this offset.
+    pub fn at(format: Format, offset: usize, bytes: &'a [u8]) -> Self
+        requires { offset + length bytes.now < 2 ^ 64 }
+        ensures { result ≡ record { format = format; rest = bytes.now; offset = offset } }
+    {
+        Reader {
+            format,
+            rest: bytes,
+            offset,
+        }
+    }
+
+    /// How its records are written.
+    pub fn format(&self) -> Format
+        ensures { result ≡ self.now.format }
+    {
+        self.format
     }
 
     /// The next packet, or none at the end of the capture.

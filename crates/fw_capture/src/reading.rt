@@ -22,6 +22,9 @@ const NANOSECONDS: u32 = 0xa1b2_3c4d;
 
 const MICROSECONDS: u32 = 0xa1b2_c3d4;
 
+/// The type of the block that a file in the form pcapng begins with. It is the same in either order of bytes.
+const PCAPNG: u32 = 0x0a0d_0d0a;
+
 /// The order of bytes, and whether fractions are nanoseconds, by the magic number.
 fn magic_at(bytes: &[u8]) -> Option<(bool, bool)>
     requires { 4 ≤ length bytes.now }
@@ -57,6 +60,9 @@ pub(crate) fn format_of(bytes: &[u8]) -> Result<Format, CaptureFault>
 {
     if bytes.len() < FILE_HEADER_SIZE {
         return Err(CaptureFault::ShortHeader);
+    }
+    if number_at(true, 0, bytes) == PCAPNG {
+        return Err(CaptureFault::Pcapng);
     }
     let Some((little, nano)) = magic_at(bytes) else {
         return Err(CaptureFault::BadMagic);

@@ -197,7 +197,11 @@ fn only_zeros<R: Read>(reader: &mut R) -> Result<bool, WholeError>
 }
 
 /// Appends what a reader has next, so that there are so many bytes, or fewer at its end.
-fn fill<R: Read>(reader: &mut R, bytes: &mut Vec<u8>, len: usize) -> Result<(), WholeError>
+pub(crate) fn fill<R: Read>(
+    reader: &mut R,
+    bytes: &mut Vec<u8>,
+    len: usize,
+) -> Result<(), WholeError>
     ensures fills { OnOk result (Fills len (R.remaining reader.old) (R.remaining reader.new) bytes.old.items bytes.new.items) }
     ensures faults { IfErr result IsOfReading }
 {

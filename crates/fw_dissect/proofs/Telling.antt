@@ -16,34 +16,34 @@ use Rattle.fw_seal.specs.Sealing.{Ends}
 use Rattle.fw_dissect.specs.Lines.{AreLines, IsLine, number_after}
 
 -- The text went on by some lines. What tells the records from this place on goes on with these.
-pub record SoFar (links : List Ends) (start place : Place) (number : ℕ) (first text : List ℕ) : Type 0 where
+pub record SoFar (times : Bool) (links : List Ends) (start place : Place) (number : ℕ) (first text : List ℕ) : Type 0 where
   pub told : List ℕ
   pub written : text ≡ first ++ told
-  pub goes_on : (ending : Option CaptureError) (records : List (ℕ × Told)) (later : List ℕ) → HasRecords place records ending → AreLines links number records later
-      → (all : List (ℕ × Told)) × HasRecords start all ending × AreLines links 0 all (told ++ later)
+  pub goes_on : (ending : Option CaptureError) (records : List (ℕ × Told)) (later : List ℕ) → HasRecords place records ending → AreLines times links number records later
+      → (all : List (ℕ × Told)) × HasRecords start all ending × AreLines times links 0 all (told ++ later)
 
-module _ (links : List Ends) where
-  pub begins : (start : Place) (text : List ℕ) → SoFar links start start 0 text text
+module _ (times : Bool) (links : List Ends) where
+  pub begins : (start : Place) (text : List ℕ) → SoFar times links start start 0 text text
   begins start text = record { told = []; written = sym (append-nil text); goes_on = λ ending records later has are. (records, has, are) }
 
-  pub goes_on : (start place : Place) (number : ℕ) (time size : ℕ) (told : Told) (line first text next : List ℕ) → SoFar links start place number first text
-      → record_at place.format place.rest ≡ Ok (time, told, size) → IsLine links number told line → next ≡ text ++ line
-      → SoFar links start (after size place) (number_after number told) first next
+  pub goes_on : (start place : Place) (number : ℕ) (time size : ℕ) (told : Told) (line first text next : List ℕ) → SoFar times links start place number first text
+      → record_at place.format place.rest ≡ Ok (time, told, size) → IsLine times links number time told line → next ≡ text ++ line
+      → SoFar times links start (after size place) (number_after number told) first next
   goes_on start place number time size told line first text next so_far read is more = record {
     told = so_far.told ++ line;
     written = more ∙ ap (λ (t : List ℕ). t ++ line) so_far.written ∙ append_assoc first so_far.told line;
     goes_on = λ ending records later has are.
         let whole = so_far.goes_on ending ((time, told) ∷ records) (line ++ later) (size, read, has) (line, later, is, are, refl) in
-        let P : List ℕ → Type 0 = λ t. AreLines links 0 whole.0 t in
+        let P : List ℕ → Type 0 = λ t. AreLines times links 0 whole.0 t in
         (whole.0, whole.1, subst P (sym (append_assoc so_far.told line later)) whole.2);
   }
 
   -- no record is left, or one with a fault is next
-  pub ends : (start place : Place) (number : ℕ) (first text : List ℕ) (ending : Option CaptureError) → SoFar links start place number first text → EndsAt place ending
-      → (records : List (ℕ × Told)) × (lines : List ℕ) × HasRecords start records ending × AreLines links 0 records lines × (text ≡ first ++ lines)
+  pub ends : (start place : Place) (number : ℕ) (first text : List ℕ) (ending : Option CaptureError) → SoFar times links start place number first text → EndsAt place ending
+      → (records : List (ℕ × Told)) × (lines : List ℕ) × HasRecords start records ending × AreLines times links 0 records lines × (text ≡ first ++ lines)
   ends start place number first text ending so_far at =
       let whole = so_far.goes_on ending [] [] at refl in
-      let P : List ℕ → Type 0 = λ t. AreLines links 0 whole.0 t in
+      let P : List ℕ → Type 0 = λ t. AreLines times links 0 whole.0 t in
       (whole.0, so_far.told, whole.1, subst P (append-nil so_far.told) whole.2, so_far.written)
 
 -- ---- a record has bytes of its own

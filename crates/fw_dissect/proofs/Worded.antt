@@ -1,10 +1,10 @@
 -- What a datagram says, in words, and its line, behind a text.
-use Rattle.std.proofs.Common.{◌≡◌, ℕ, List, ◌++◌, length, Result, Ok, Err, OnOk, inl, inr, refl, sym, ap, subst, ◌∙◌, append_assoc}
+use Rattle.std.proofs.Common.{◌≡◌, ℕ, Bool, List, ◌++◌, length, Result, Ok, Err, OnOk, inl, inr, refl, sym, ap, subst, ◌∙◌, append_assoc}
 use Rattle.std.specs.Prelude.{codes}
 use Rattle.fw_capture.specs.View.{Endpoint, Told, datagram}
 use Rattle.fw_seal.specs.Sealing.{Ends}
 use Rattle.fw_unseal.specs.Unsealing.{LooksPlain, LooksSealed, OpensNot}
-use Rattle.fw_dissect.specs.Lines.{AreWords, IsLine, PlainWords, datagram_line, front_text, unopened_words}
+use Rattle.fw_dissect.specs.Lines.{AreWords, IsLine, IsTimeIf, PlainWords, datagram_line, front_text, unopened_words}
 
 abbrev pub Goes : List Ends → (bytes old new : List ℕ) → Type 0
 Goes links bytes old new = (words : List ℕ) × AreWords links bytes words × (new ≡ old ++ words)
@@ -39,9 +39,21 @@ module _ {A E : Type 0} (r : Result A E) where
             ∙ append_assoc (t0 ++ front_text number from to) second.0 (codes "\n") ∙ append_assoc t0 (front_text number from to) (second.0 ++ codes "\n"),
       ))
 
--- it is the line of a record that tells the datagram
-pub line_told : (links : List Ends) (number : ℕ) (told : Told) (from to : Endpoint) (bytes old new : List ℕ) → told ≡ datagram from to bytes
-    → (words : List ℕ) × AreWords links bytes words × (new ≡ old ++ datagram_line number from to words) → (line : List ℕ) × IsLine links number told line × (new ≡ old ++ line)
-line_told links number told from to bytes old new is words =
-    subst (λ (t : Told). (line : List ℕ) × IsLine links number t line × (new ≡ old ++ line)) (sym is)
-    (datagram_line number from to words.0, (words.0, words.1, refl), words.2)
+-- ---- behind the time
+
+module _ (times : Bool) (links : List Ends) (number time : ℕ) (old mid new : List ℕ) where
+  abbrev pub Fronts : Type 0
+  Fronts = (front : List ℕ) × IsTimeIf times time front × (mid ≡ old ++ front)
+
+  abbrev pub Lines : Told → Type 0
+  Lines told = (line : List ℕ) × IsLine times links number time told line × (new ≡ old ++ line)
+
+  behind : (front line : List ℕ) → mid ≡ old ++ front → new ≡ mid ++ line → new ≡ old ++ (front ++ line)
+  behind front line first second = second ∙ ap (λ (t : List ℕ). t ++ line) first ∙ append_assoc old front line
+
+  -- it is the line of a record that tells the datagram
+  pub line_told : (told : Told) (from to : Endpoint) (bytes : List ℕ) → told ≡ datagram from to bytes → Fronts
+      → (words : List ℕ) × AreWords links bytes words × (new ≡ mid ++ datagram_line number from to words) → Lines told
+  line_told told from to bytes is (front, timed, first) (words, are, second) =
+      subst (λ (t : Told). Lines t) (sym is)
+      (front ++ datagram_line number from to words, (front, words, timed, are, refl), behind front (datagram_line number from to words) first second)

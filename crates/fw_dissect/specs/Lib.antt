@@ -1,4 +1,5 @@
 -- Public vocabulary: the words of public clauses, for callers and readers.
+pub mod Times
 pub mod Lines
 pub mod Captures
 -- For private clauses alone: no public clause cites it.

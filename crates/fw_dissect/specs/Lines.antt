@@ -1,6 +1,6 @@
 -- Public vocabulary: what is reported of a capture. Each datagram has a line: its number, the address and the port that it came from and went to,
--- and what it says. Each note has one too. Other packets have none.
-use Rattle.std.specs.Prelude.{◌≡◌, ◌⊎◌, ℕ, ◌+◌, ◌==◌, ◌||◌, if◌then◌else◌, Bool, false, List, [], ◌∷◌, ◌++◌, length, Option, Some, None, slice_get, codes, decimal}
+-- and what it says. Each note has one too. Other packets have none. Where that is asked for, the time of its record stands before each line.
+use Rattle.std.specs.Prelude.{◌≡◌, ◌⊎◌, ℕ, ◌+◌, ◌==◌, ◌||◌, if◌then◌else◌, Bool, true, false, List, [], ◌∷◌, ◌++◌, length, Option, Some, None, slice_get, codes, decimal}
 use Rattle.std.specs.Net.Addr.{segments_of}
 use Rattle.std.specs.Net.Text.{ipv4_text, ipv6_text}
 use Rattle.fw_capture.specs.declared.fault.CaptureError.{CaptureError}
@@ -14,6 +14,7 @@ use Rattle.fw_report.specs.Message.{Says}
 use Rattle.fw_report.specs.Trace.{in_bytes, message_words}
 use Rattle.fw_recording.specs.Records.{HoldsRecords}
 use Rattle.fw_seal.specs.Sealing.{Ends}
+use Rattle.fw_dissect.specs.Times.{IsTime}
 use Rattle.fw_unseal.specs.Unsealing.{LooksPlain, LooksSealed, OpensNot, OpensTo}
 
 -- ---- which way a datagram goes
@@ -85,11 +86,17 @@ note_line notes.Start = codes "start\n"
 note_line notes.Turn = codes "turn\n"
 note_line (notes.Strangers count) = codes "strangers " ++ (decimal count ++ codes "\n")
 
--- the line of a record, of which the datagram has this number if it tells one
-abbrev pub IsLine : List Ends → ℕ → Told → List ℕ → Type 0
-IsLine links number (datagram from to bytes) line = (words : List ℕ) × AreWords links bytes words × (line ≡ datagram_line number from to words)
-IsLine links number (note n) line = line ≡ note_line n
-IsLine links number other line = line ≡ []
+-- the time and a space, where times are asked for
+abbrev pub IsTimeIf : Bool → ℕ → List ℕ → Type 0
+IsTimeIf false time text = text ≡ []
+IsTimeIf true time text = (said : List ℕ) × IsTime time said × (text ≡ said ++ codes " ")
+
+-- the line of a record of this time, of which the datagram has this number if it tells one
+abbrev pub IsLine : Bool → List Ends → ℕ → ℕ → Told → List ℕ → Type 0
+IsLine times links number time (datagram from to bytes) line =
+    (front : List ℕ) × (words : List ℕ) × IsTimeIf times time front × AreWords links bytes words × (line ≡ front ++ datagram_line number from to words)
+IsLine times links number time (note n) line = (front : List ℕ) × IsTimeIf times time front × (line ≡ front ++ note_line n)
+IsLine times links number time other line = line ≡ []
 
 -- the number of the next datagram
 abbrev pub number_after : ℕ → Told → ℕ
@@ -98,13 +105,15 @@ number_after number (note n) = number
 number_after number other = number
 
 -- the lines of records, one after another, of which the first datagram has this number
-abbrev pub AreLines : List Ends → ℕ → List (ℕ × Told) → List ℕ → Type 0
-AreLines links number [] text = text ≡ []
-AreLines links number (r ∷ records) text =
-    (line : List ℕ) × (rest : List ℕ) × IsLine links number r.1 line × AreLines links (number_after number r.1) records rest × (text ≡ line ++ rest)
+abbrev pub AreLines : Bool → List Ends → ℕ → List (ℕ × Told) → List ℕ → Type 0
+AreLines times links number [] text = text ≡ []
+AreLines times links number (r ∷ records) text =
+    (line : List ℕ) × (rest : List ℕ) × IsLine times links number r.0 r.1 line × AreLines times links (number_after number r.1) records rest
+    × (text ≡ line ++ rest)
 
--- The text tells all of a capture up to its end, or up to its first fault, to who has these links. Datagrams are numbered from 0.
-pub record TellsCapture (links : List Ends) (capture : List ℕ) (ending : Option CaptureError) (text : List ℕ) : Type 0 where
+-- The text tells all of a capture up to its end, or up to its first fault, to who has these links, with times or without. Datagrams are numbered
+-- from 0.
+pub record TellsCapture (times : Bool) (links : List Ends) (capture : List ℕ) (ending : Option CaptureError) (text : List ℕ) : Type 0 where
   pub records : List (ℕ × Told)
   pub holds : HoldsRecords capture records ending
-  pub lines : AreLines links 0 records text
+  pub lines : AreLines times links 0 records text

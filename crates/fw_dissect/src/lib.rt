@@ -5,6 +5,7 @@
 mod dissection;
 mod line;
 mod plain;
+mod time;
 mod words;
 
 pub use dissection::{Dissection, dissect};

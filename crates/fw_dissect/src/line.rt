@@ -2,38 +2,54 @@
 
 ghost use Rattle.std.specs.Prelude.{◌≡◌, ◌+◌, ◌<◌, ◌^◌, ◌++◌, ℕ, List, codes, IfOk, OnOk, string_bytes};
 ghost use Rattle.fw_capture.specs.View.{endpoint_of, told_in};
-ghost use Rattle.fw_dissect.specs.Lines.{AreWords, IsLine, datagram_line, endpoint_text, ends_text, front_text, note_line, number_after};
+ghost use Rattle.fw_dissect.specs.Lines.{AreWords, IsLine, IsTimeIf, datagram_line, endpoint_text, ends_text, front_text, note_line, number_after};
 
+use crate::time::append_time;
 use crate::words::append_words;
-use fw_capture::{Content, Note};
+use fw_capture::{Content, Note, Packet};
 use fw_seal::Link;
 use std::alloc::{AllocError, Global};
 use std::net::{Ipv6Addr, SocketAddr};
 
-/// Appends the line of what a record tells, and returns the number of the next datagram.
+/// Appends the line of a packet, with its time where times are asked for, and returns the number of the next datagram.
 pub(crate) fn append_line(
     alloc: Global,
     links: &[Link],
+    times: bool,
     text: &mut String,
     number: u64,
-    content: Option<Content<'_>>,
+    packet: &Packet<'_>,
 ) -> Result<u64, AllocError>
     requires { number + 1 < 2 ^ 64 }
-    ensures number { IfOk result (λ next. next ≡ number_after number (told_in content.entry)) }
-    ensures line { OnOk result ((line : List ℕ) × IsLine links.now number (told_in content.entry) line
+    ensures number { IfOk result (λ next. next ≡ number_after number (told_in packet.now.content)) }
+    ensures line { OnOk result ((line : List ℕ) × IsLine times links.now number packet.now.nanoseconds (told_in packet.now.content) line
         × (string_bytes text.new ≡ string_bytes text.old ++ line)) }
 {
-    match content {
+    match packet.content {
         None => Ok(number),
         Some(Content::Note(note)) => {
+            append_time_if(text, times, packet.nanoseconds)?;
             append_note(text, note)?;
             Ok(number)
         }
         Some(Content::Datagram { from, to, bytes }) => {
+            append_time_if(text, times, packet.nanoseconds)?;
             append_datagram(alloc, links, text, number, from, to, bytes)?;
             Ok(number + 1)
         }
     }
+}
+
+/// Appends the time of a line and a space, where times are asked for.
+fn append_time_if(text: &mut String, times: bool, nanoseconds: u64) -> Result<(), AllocError>
+    ensures { OnOk result ((front : List ℕ) × IsTimeIf times nanoseconds front
+        × (string_bytes text.new ≡ string_bytes text.old ++ front)) }
+{
+    if !times {
+        return Ok(());
+    }
+    append_time(text, nanoseconds)?;
+    text.push_str(" ")
 }
 
 /// Appends the line of a note.

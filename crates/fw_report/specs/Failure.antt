@@ -1,8 +1,9 @@
--- Public vocabulary: the words for why a row failed: the phase that it was in, and what its meter answered. No word has a comma or a quote.
+-- Public vocabulary: the words for why a row failed: the phase that it was in, and what its meter answered, or that no answer ended it. No
+-- word has a comma or a quote.
 use Rattle.std.specs.Prelude.{ℕ, List, [], ◌++◌, Option, None, Some, codes, decimal, if◌then◌else◌, ◌==◌}
 use Rattle.fw_names.specs.Name.{Campaign}
 use Rattle.fw_book.specs.declared.notes.Answer.{Answer}
-use Rattle.fw_book.specs.declared.notes.Answer.TheVariants.{Number, Bits, Status, Info, Active, Code}
+use Rattle.fw_book.specs.declared.notes.Answer.TheVariants.{Number, Bits, Status, Info, Active, Code, Silent, GivenUp}
 use Rattle.fw_book.specs.declared.notes.Reason.{Reason}
 use Rattle.fw_book.specs.declared.phase.Phase.{Phase}
 use Rattle.fw_book.specs.declared.phase.Phase.TheVariants as phase
@@ -55,7 +56,7 @@ status_word status =
 abbrev pub campaign_words : List ℕ → Campaign → List ℕ
 campaign_words word campaign = word ++ (codes " " ++ (decimal campaign.head ++ (codes " " ++ decimal campaign.serial)))
 
--- what a meter answered, after a space
+-- what ended a row, after a space: what its meter answered; or that it was silent for too long; or that an operator gave the row up
 abbrev pub answer_words : Answer → List ℕ
 answer_words (Number number) = codes " number " ++ decimal number
 answer_words (Bits count) = codes " bits " ++ decimal count
@@ -64,6 +65,8 @@ answer_words (Info None) = codes " no image"
 answer_words (Info (Some campaign)) = campaign_words (codes " image") campaign
 answer_words (Active campaign) = campaign_words (codes " runs") campaign
 answer_words (Code code) = codes " code " ++ (decimal code ++ code_word code)
+answer_words Silent = codes " silent"
+answer_words GivenUp = codes " given-up"
 
 abbrev pub failure_words : Reason → List ℕ
 failure_words why = phase_word why.phase ++ answer_words why.answer

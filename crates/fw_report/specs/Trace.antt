@@ -1,6 +1,11 @@
 -- Public vocabulary: the trace of a run, a line for each datagram that was sent: its number, who sent it and who it is for, in plain words
 -- what it says, why an initiate was refused that it answers, and what the network did with it.
-use Rattle.std.specs.Prelude.{◌≡◌, ℕ, ◌+◌, ◌==◌, if◌then◌else◌, true, false, List, [], ◌∷◌, ◌++◌, length, slice_index_or, Option, codes, decimal}
+use Rattle.std.specs.Prelude.{◌≡◌, ℕ, ◌+◌, ◌==◌, if◌then◌else◌, true, false, List, [], ◌∷◌, ◌++◌, length, slice_index, slice_index_or, Option, codes, decimal}
+use Rattle.std.specs.Fmt.{signed_decimal}
+use Rattle.fw_apdu.specs.declared.error.ApduError.{ApduError}
+use Rattle.fw_apdu.specs.declared.error.ApduError.TheVariants as apdu
+use Rattle.fw_axdr.specs.declared.error.AxdrError.{AxdrError}
+use Rattle.fw_axdr.specs.declared.error.AxdrError.TheVariants as axdr
 use Rattle.fw_server.specs.declared.object.Reading.{Reading}
 use Rattle.fw_server.specs.declared.object.Reading.TheVariants as reading
 use Rattle.fw_world.specs.declared.datagram.Actor.{Actor}
@@ -11,11 +16,18 @@ use Rattle.fw_world.specs.View.{sender, addressee}
 use Rattle.fw_world.specs.World.{Datagram}
 use Rattle.fw_report.specs.declared.course.Course.{Course}
 use Rattle.fw_report.specs.declared.reason.Reason.{Reason}
+use Rattle.fw_wrapper.specs.declared.error.WrapError.{WrapError}
+use Rattle.fw_wrapper.specs.declared.error.WrapError.TheVariants as wrap
+use Rattle.fw_report.specs.declared.message.Addressed.{Addressed}
+use Rattle.fw_report.specs.declared.message.Service.{Service}
+use Rattle.fw_report.specs.declared.message.Service.TheVariants as service
 use Rattle.fw_report.specs.declared.message.ShownValue.{ShownValue}
 use Rattle.fw_report.specs.declared.message.ShownValue.TheVariants as shown
 use Rattle.fw_report.specs.declared.message.Message.{Message}
 use Rattle.fw_report.specs.declared.message.Message.TheVariants as message
 use Rattle.fw_report.specs.declared.message.Title.{Title}
+use Rattle.fw_report.specs.declared.message.Unread.{Unread}
+use Rattle.fw_report.specs.declared.message.Unread.TheVariants as unread
 use Rattle.fw_report.specs.declared.trace.Note.{Note}
 use Rattle.fw_report.specs.Course.{AreCourses, course_of, course_words}
 use Rattle.fw_report.specs.Reason.{AreReasons, reason_at, reason_told, reason_words}
@@ -58,6 +70,66 @@ shown_words (shown.Octets size) = codes "? " ++ in_bytes size
 shown_words (shown.Images n) = codes "images " ++ decimal n
 shown_words shown.Other = codes "?"
 
+-- ---- what a request is about that no meter has here
+
+abbrev pub service_word : Service → List ℕ
+service_word service.Get = codes "get"
+service_word service.Set = codes "set"
+service_word service.Action = codes "action"
+
+abbrev pub member_word : Service → List ℕ
+member_word service.Get = codes "attribute"
+member_word service.Set = codes "attribute"
+member_word service.Action = codes "method"
+
+-- an OBIS code by its six value groups, A-B:C.D.E.F (IEC 62056-6-1)
+unfoldable pub obis_text : List ℕ → List ℕ
+obis_text name =
+    decimal (slice_index name 0) ++ (codes "-" ++ (decimal (slice_index name 1) ++ (codes ":" ++ (decimal (slice_index name 2) ++ (codes "."
+    ++ (decimal (slice_index name 3) ++ (codes "." ++ (decimal (slice_index name 4) ++ (codes "." ++ decimal (slice_index name 5))))))))))
+
+-- the class and the instance of the object
+abbrev pub object_words : Addressed → List ℕ
+object_words about = service_word about.service ++ (codes " class " ++ (decimal about.class ++ (codes " " ++ obis_text about.instance)))
+
+-- the attribute or the method
+abbrev pub member_words : Addressed → List ℕ
+member_words about = codes " " ++ (member_word about.service ++ (codes " " ++ signed_decimal about.number))
+
+abbrev pub addressed_words : Addressed → List ℕ
+addressed_words about = object_words about ++ member_words about
+
+-- ---- why bytes can't be read
+
+abbrev pub wrap_name : WrapError → List ℕ
+wrap_name wrap.Short = codes "Short"
+wrap_name wrap.Version = codes "Version"
+wrap_name wrap.Length = codes "Length"
+wrap_name wrap.TooLong = codes "TooLong"
+wrap_name wrap.OutOfMemory = codes "OutOfMemory"
+
+abbrev pub axdr_name : AxdrError → List ℕ
+axdr_name axdr.Truncated = codes "Truncated"
+axdr_name axdr.UnknownTag = codes "UnknownTag"
+axdr_name axdr.BadLength = codes "BadLength"
+axdr_name axdr.TooDeep = codes "TooDeep"
+axdr_name axdr.OutOfMemory = codes "OutOfMemory"
+
+-- the name of a fault, behind what has it: the APDU, or the Data in it
+abbrev pub apdu_words : ApduError → List ℕ
+apdu_words apdu.Truncated = codes "APDU Truncated"
+apdu_words apdu.UnknownService = codes "APDU UnknownService"
+apdu_words apdu.UnsupportedForm = codes "APDU UnsupportedForm"
+apdu_words (apdu.BadData fault) = codes "Data " ++ axdr_name fault
+apdu_words apdu.Trailing = codes "APDU Trailing"
+apdu_words apdu.OutOfMemory = codes "APDU OutOfMemory"
+
+abbrev pub unread_words : Unread → List ℕ
+unread_words (unread.Wrapper fault) = codes "wrapper " ++ wrap_name fault
+unread_words (unread.Apdu fault) = apdu_words fault
+
+-- ---- what a datagram says
+
 abbrev pub message_words : Message → List ℕ
 message_words (message.Get attribute) = codes "get " ++ attribute_name attribute
 message_words (message.Enable true) = codes "enable"
@@ -71,7 +143,8 @@ message_words (message.Got b) = codes "get " ++ shown_words b
 message_words (message.GotCode c) = codes "get code " ++ decimal c
 message_words (message.SetCode c) = codes "set " ++ decimal c
 message_words (message.ActionCode c) = codes "action " ++ decimal c
-message_words (message.Unread size) = codes "? " ++ in_bytes size
+message_words (message.Foreign about) = addressed_words about
+message_words (message.Unread size why) = codes "? " ++ (in_bytes size ++ (codes ", " ++ unread_words why))
 
 -- ---- the lines
 

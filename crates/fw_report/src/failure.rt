@@ -1,4 +1,4 @@
-//! The words for why a row failed: the phase that it was in, and what its meter answered.
+//! The words for why a row failed: the phase that it was in, and what its meter answered, or that no answer ended it.
 
 ghost use Rattle.std.specs.Prelude.{◌≡◌, ◌++◌, OnOk, string_bytes};
 ghost use Rattle.fw_report.specs.Failure.{answer_words, campaign_words, code_word, failure_words, phase_word, status_word, why_words};
@@ -29,7 +29,7 @@ pub fn append_why(text: &mut String, reason: Option<Reason>) -> Result<(), Alloc
     append_failure(text, reason)
 }
 
-/// Appends why a row failed: the phase, and the answer.
+/// Appends why a row failed: the phase, and what ended it.
 pub fn append_failure(text: &mut String, reason: Reason) -> Result<(), AllocError>
     ensures { OnOk result (string_bytes text.new ≡ string_bytes text.old ++ failure_words reason) }
 {
@@ -37,7 +37,7 @@ pub fn append_failure(text: &mut String, reason: Reason) -> Result<(), AllocErro
     append_answer(text, reason.answer)
 }
 
-/// Appends what a meter answered, after a space.
+/// Appends what ended a row, after a space.
 fn append_answer(text: &mut String, answer: Answer) -> Result<(), AllocError>
     ensures { OnOk result (string_bytes text.new ≡ string_bytes text.old ++ answer_words answer) }
 {
@@ -48,6 +48,8 @@ fn append_answer(text: &mut String, answer: Answer) -> Result<(), AllocError>
         Answer::Info(told) => append_info(text, told),
         Answer::Active(campaign) => append_campaign(text, " runs", campaign),
         Answer::Code(code) => append_code(text, code),
+        Answer::Silent => text.push_str(" silent"),
+        Answer::GivenUp => text.push_str(" given-up"),
     }
 }
 

@@ -7,7 +7,10 @@ pub fn one_trace()
     ensures { OneTrace }
 {
     fw_wrapper::laws::one_frame();
+    fw_wrapper::laws::wrapped_has_no_fault();
     fw_names::laws::one_name();
     fw_apdu::laws::one_request();
     fw_apdu::laws::one_response();
+    fw_apdu::laws::one_request_fault();
+    fw_apdu::laws::one_response_fault();
 }

@@ -1,21 +1,24 @@
 //! What a datagram says, read out of its bytes.
 
-ghost use Rattle.std.specs.Prelude.{length, IfOk};
+ghost use Rattle.std.specs.Prelude.{◌≡◌, IfOk};
 ghost use Rattle.fw_axdr.specs.Value.{octet_string};
 ghost use Rattle.fw_axdr.specs.View.{value_of};
+ghost use Rattle.fw_apdu.specs.Fault.{RequestFails, ResponseFails};
 ghost use Rattle.fw_apdu.specs.Request.{SpellsRequest};
 ghost use Rattle.fw_apdu.specs.Response.{SpellsResponse};
-ghost use Rattle.fw_apdu.specs.View.{response_content};
+ghost use Rattle.fw_apdu.specs.View.{request_content, response_content};
 ghost use Rattle.fw_server.specs.Meaning.{meaning_of};
 ghost use Rattle.fw_server.specs.View.{planned_meaning, operation_meaning};
-ghost use Rattle.fw_report.specs.Message.{Says, SaysCarried, SaysAsk, SaysAnswer, IsShownAs, NamesImage};
+ghost use Rattle.fw_report.specs.declared.message.Message.{Message};
+ghost use Rattle.fw_report.specs.declared.message.Unread.{Unread};
+ghost use Rattle.fw_report.specs.Message.{Says, SaysCarried, SaysAsk, SaysAnswer, IsShownAs, NamesImage, addressed_by};
 
-use fw_apdu::{ApduError, GetDataResult, Response, read_request, read_response};
+use fw_apdu::{ApduError, GetDataResult, Request, Response, read_request, read_response};
 use fw_axdr::Data;
 use fw_names::{CampaignId, ImageName};
 use fw_server::{Operation, Planned, Reading, plan};
 use fw_world::{Datagram, Direction};
-use fw_wrapper::split;
+use fw_wrapper::{WrapError, split};
 use std::alloc::{AllocError, Global};
 
 /// What the name of an image tells: its campaign, and its release, which is 0 if it has none.
@@ -23,6 +26,35 @@ use std::alloc::{AllocError, Global};
 pub struct Title {
     pub campaign: CampaignId,
     pub release: u32,
+}
+
+/// The service of a request.
+#[derive(Clone, Copy)]
+pub enum Service {
+    Get,
+    Set,
+    Action,
+}
+
+/// What a request is about.
+#[derive(Clone, Copy)]
+pub struct Addressed {
+    pub service: Service,
+    /// The class_id of the object.
+    pub class: u16,
+    /// Its logical name: the value groups A to F of an OBIS code (IEC 62056-6-1).
+    pub instance: [u8; 6],
+    /// The number of the attribute or the method.
+    pub number: i8,
+}
+
+/// Why bytes can't be read: of several faults the leftmost one.
+#[derive(Clone, Copy)]
+pub enum Unread {
+    /// The wrapper is wrong.
+    Wrapper(WrapError),
+    /// The APDU in it is.
+    Apdu(ApduError),
 }
 
 /// What a datagram says, in short.
@@ -42,6 +74,8 @@ pub enum Message {
     Verify,
     /// An image_activate.
     Activate,
+    /// A request for what no meter has here, or with a parameter of another shape.
+    Foreign(Addressed),
     /// The answer to a GET, by a value.
     Got(ShownValue),
     /// The answer to a GET, by a code.
@@ -50,8 +84,8 @@ pub enum Message {
     SetCode(u8),
     /// The answer to an ACTION.
     ActionCode(u8),
-    /// Bytes that can't be read, and how many.
-    Unread(usize),
+    /// Bytes that can't be read: how many, and why.
+    Unread { size: usize, why: Unread },
 }
 
 /// A value that a GET is answered by, in short.
@@ -85,36 +119,76 @@ pub fn message_of(alloc: Global, datagram: &Datagram) -> Result<Message, AllocEr
 
 /// What a datagram to a meter says.
 pub fn asked(alloc: Global, bytes: &[u8]) -> Result<Message, AllocError>
-    ensures { IfOk result (SaysCarried SpellsRequest (λ content. SaysAsk (length bytes.now) (meaning_of content)) bytes.now) }
+    ensures { IfOk result (SaysCarried SpellsRequest RequestFails (λ content. SaysAsk (addressed_by content) (meaning_of content)) bytes.now) }
 {
-    let Ok(frame) = split(bytes) else {
-        return Ok(Message::Unread(bytes.len()));
+    let size = bytes.len();
+    let frame = match split(bytes) {
+        Ok(frame) => frame,
+        Err(error) => return Ok(bad_wrapper(size, error)),
     };
     match read_request(alloc, frame.apdu) {
-        Ok(request) => Ok(ask_of(plan(&request), bytes.len())),
+        Ok(request) => Ok(ask_of(addressed_by(&request), plan(&request))),
         Err(ApduError::OutOfMemory) => Err(AllocError),
-        Err(_) => Ok(Message::Unread(bytes.len())),
+        Err(error) => Ok(bad_apdu(size, error)),
     }
 }
 
-/// What a request says that asks for this, in a datagram of this size in bytes.
-fn ask_of(planned: Planned<'_>, size: usize) -> Message
-    ensures { SaysAsk size (planned_meaning planned.entry) result }
+/// What bytes say whose wrapper has this fault.
+fn bad_wrapper(size: usize, error: WrapError) -> Message
+    ensures { result ≡ Message.Unread size (Unread.Wrapper error) }
+{
+    Message::Unread {
+        size,
+        why: Unread::Wrapper(error),
+    }
+}
+
+/// What bytes say whose APDU has this fault.
+fn bad_apdu(size: usize, error: ApduError) -> Message
+    ensures { result ≡ Message.Unread size (Unread.Apdu error) }
+{
+    Message::Unread {
+        size,
+        why: Unread::Apdu(error),
+    }
+}
+
+/// What a request is about.
+fn addressed_by(request: &Request) -> Addressed
+    ensures { result ≡ addressed_by (request_content request.now) }
+{
+    let (service, number) = match request {
+        Request::Get { attribute, .. } => (Service::Get, *attribute),
+        Request::Set { attribute, .. } => (Service::Set, *attribute),
+        Request::Action { method, .. } => (Service::Action, *method),
+    };
+    let instance = request.instance().0;
+    Addressed {
+        service,
+        class: request.class(),
+        instance,
+        number,
+    }
+}
+
+/// What a request says that is about this and asks for that.
+fn ask_of(addressed: Addressed, planned: Planned<'_>) -> Message
+    ensures { SaysAsk addressed (planned_meaning planned.entry) result }
 {
     match planned {
         Planned::Read(attribute) => Message::Get(attribute),
-        Planned::Operate(operation) => operation_of(operation, size),
+        Planned::Operate(operation) => operation_of(addressed, operation),
         Planned::Block { number, value } => Message::Block {
             number,
             size: value.len(),
         },
-        Planned::Refused(_) => Message::Unread(size),
+        Planned::Refused(_) => Message::Foreign(addressed),
     }
 }
 
-/// What a request says that asks for this operation.
-fn operation_of(operation: Operation<'_>, size: usize) -> Message
-    ensures { SaysAsk size (operation_meaning operation.entry) result }
+/// What a request says that is about this and asks for this operation.
+fn operation_of(addressed: Addressed, operation: Operation<'_>) -> Message
+    ensures { SaysAsk addressed (operation_meaning operation.entry) result }
 {
     match operation {
         Operation::Enable(enabled) => Message::Enable(enabled),
@@ -142,15 +216,17 @@ fn title_in(bytes: &[u8]) -> Option<Title>
 
 /// What a datagram to a head end says.
 pub fn answered(alloc: Global, bytes: &[u8]) -> Result<Message, AllocError>
-    ensures { IfOk result (SaysCarried SpellsResponse SaysAnswer bytes.now) }
+    ensures { IfOk result (SaysCarried SpellsResponse ResponseFails SaysAnswer bytes.now) }
 {
-    let Ok(frame) = split(bytes) else {
-        return Ok(Message::Unread(bytes.len()));
+    let size = bytes.len();
+    let frame = match split(bytes) {
+        Ok(frame) => frame,
+        Err(error) => return Ok(bad_wrapper(size, error)),
     };
     match read_response(alloc, frame.apdu) {
         Ok(response) => Ok(answer_of(&response)),
         Err(ApduError::OutOfMemory) => Err(AllocError),
-        Err(_) => Ok(Message::Unread(bytes.len())),
+        Err(error) => Ok(bad_apdu(size, error)),
     }
 }
 

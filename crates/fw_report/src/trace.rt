@@ -6,14 +6,13 @@ ghost use Rattle.fw_world.specs.Setup.{IsSetup};
 ghost use Rattle.fw_report.specs.Course.{course_words};
 ghost use Rattle.fw_report.specs.Reason.{reason_at, reason_words};
 ghost use Rattle.fw_report.specs.Message.{Says};
-ghost use Rattle.fw_report.specs.Trace.{TellsTrace, IsTrace, line_of, note_of, ends_words, kind_of, number_of, message_words, shown_words, release_words, title_words, attribute_name};
+ghost use Rattle.fw_report.specs.Trace.{TellsTrace, IsTrace, line_of, note_of, ends_words, kind_of, number_of, message_words};
 ghost use Rattle.fw_report.specs.declared.message.Message.{Message};
 
 use crate::course::{Course, append_course, courses_of};
-use crate::message::{Message, ShownValue, Title, message_of};
+use crate::message::{Message, message_of};
 use crate::reason::{Reason, append_reason, reason_told, reasons_of};
-use crate::report::head_number;
-use fw_server::Reading;
+use crate::words::append_message;
 use fw_world::{Actor, Datagram, Event, Setup};
 use std::alloc::{AllocError, Global};
 
@@ -156,104 +155,5 @@ fn number_of(actor: &Actor) -> u32
     match actor {
         Actor::Head(head) => head.number(),
         Actor::Meter(meter) => meter.number(),
-    }
-}
-
-/// Appends what a datagram says.
-pub fn append_message(text: &mut String, message: Message) -> Result<(), AllocError>
-    ensures { OnOk result (string_bytes text.new ≡ string_bytes text.old ++ message_words message) }
-{
-    match message {
-        Message::Get(attribute) => append_attribute(text, attribute),
-        Message::Enable(true) => text.push_str("enable"),
-        Message::Enable(false) => text.push_str("disable"),
-        Message::Initiate { title, size } => append_initiate(text, title, size),
-        Message::InitiateUnnamed(size) => write!(text, "initiate ? ({size} bytes)"),
-        Message::Block { number, size } => write!(text, "block {number} ({size} bytes)"),
-        Message::Verify => text.push_str("verify"),
-        Message::Activate => text.push_str("activate"),
-        Message::Got(shown) => append_got(text, shown),
-        Message::GotCode(code) => write!(text, "get code {code}"),
-        Message::SetCode(code) => write!(text, "set {code}"),
-        Message::ActionCode(code) => write!(text, "action {code}"),
-        Message::Unread(size) => write!(text, "? ({size} bytes)"),
-    }
-}
-
-/// Appends that an attribute is asked for.
-fn append_attribute(text: &mut String, attribute: Reading) -> Result<(), AllocError>
-    ensures { OnOk result (string_bytes text.new ≡ string_bytes text.old ++ message_words (Message.Get attribute)) }
-{
-    let name = attribute_name(attribute);
-    write!(text, "get {name}")
-}
-
-/// The name of an attribute.
-fn attribute_name(attribute: Reading) -> &'static str
-    ensures { result.now ≡ attribute_name attribute }
-{
-    match attribute {
-        Reading::LogicalName(_) => "logical name",
-        Reading::BlockSize => "block size",
-        Reading::TransferredBlocks => "transferred blocks",
-        Reading::FirstNotTransferred => "first not transferred block",
-        Reading::TransferEnabled => "transfer enabled",
-        Reading::TransferStatus => "transfer status",
-        Reading::ToActivate => "image to activate",
-        Reading::ActiveName => "active firmware identifier",
-        Reading::ActiveDigest => "active firmware signature",
-    }
-}
-
-/// Appends which image is initiated.
-fn append_initiate(text: &mut String, title: Title, size: u32) -> Result<(), AllocError>
-    ensures { OnOk result (string_bytes text.new ≡ string_bytes text.old ++ message_words (Message.Initiate title size)) }
-{
-    text.push_str("initiate ")?;
-    append_title(text, title)?;
-    write!(text, " ({size} bytes)")
-}
-
-/// Appends the numbers of a campaign, and the release, if there is one.
-fn append_title(text: &mut String, title: Title) -> Result<(), AllocError>
-    ensures { OnOk result (string_bytes text.new ≡ string_bytes text.old ++ title_words title) }
-{
-    let (head, serial) = (head_number(title.campaign), title.campaign.serial());
-    write!(text, "campaign {head} {serial}")?;
-    append_release(text, title.release)
-}
-
-/// Appends a release, and nothing for 0, which is none.
-fn append_release(text: &mut String, release: u32) -> Result<(), AllocError>
-    ensures { OnOk result (string_bytes text.new ≡ string_bytes text.old ++ release_words release) }
-{
-    if release == 0 {
-        return Ok(());
-    }
-    write!(text, " release {release}")
-}
-
-/// Appends the answer to a GET.
-fn append_got(text: &mut String, shown: ShownValue) -> Result<(), AllocError>
-    ensures { OnOk result (string_bytes text.new ≡ string_bytes text.old ++ message_words (Message.Got shown)) }
-{
-    text.push_str("get ")?;
-    append_shown(text, shown)
-}
-
-/// Appends a value in short.
-fn append_shown(text: &mut String, shown: ShownValue) -> Result<(), AllocError>
-    ensures { OnOk result (string_bytes text.new ≡ string_bytes text.old ++ shown_words shown) }
-{
-    match shown {
-        ShownValue::Number(number) => write!(text, "{number}"),
-        ShownValue::Flag(true) => text.push_str("true"),
-        ShownValue::Flag(false) => text.push_str("false"),
-        ShownValue::Status(status) => write!(text, "status {status}"),
-        ShownValue::Bits(count) => write!(text, "bits {count}"),
-        ShownValue::Name(title) => append_title(text, title),
-        ShownValue::Octets(size) => write!(text, "? ({size} bytes)"),
-        ShownValue::Images(count) => write!(text, "images {count}"),
-        ShownValue::Other => text.push_str("?"),
     }
 }

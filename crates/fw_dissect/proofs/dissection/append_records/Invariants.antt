@@ -7,7 +7,7 @@ abbrev pub invariant-records : goal.invariant-records
 invariant-records l = record {
   within : length l.reader.rest ≤ length l.initial.reader.rest;
   counted : l.number + length l.reader.rest < 2 ^ 64;
-  so_far : SoFar l.links l.initial.reader l.reader l.number (string_bytes l.initial.text) (string_bytes l.text);
+  so_far : SoFar l.times l.links l.initial.reader l.reader l.number (string_bytes l.initial.text) (string_bytes l.text);
 }
 
 abbrev pub decreases-records : goal.decreases-records

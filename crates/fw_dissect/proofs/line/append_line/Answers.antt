@@ -7,5 +7,8 @@ use Rattle.fw_dissect.proofs.line.append_line.Goals as goal
 pub returns-in_ok-append_datagram-in-Some-Datagram-clause-line : goal.returns-in_ok-append_datagram-in-Some-Datagram-clause-line
 returns-in_ok-append_datagram-in-Some-Datagram-clause-line c =
     let it = c.in-Some-Datagram in
-    line_told c.args.links.now c.args.number (told_in c.args.content) (endpoint_of it.from) (endpoint_of it.to) it.bytes.now (string_bytes c.args.text.now)
-    (string_bytes c.append_datagram.new.text) (ap told_in it.is ∙ ap told_of (rw it.is at it.field-0-is)) c.in_ok-append_datagram-in-Some-Datagram.ensures
+    let packet = c.args.packet.now in
+    line_told c.args.times c.args.links.now c.args.number packet.nanoseconds (string_bytes c.args.text.now)
+    (string_bytes c.append_time_if-in-Some-Datagram.new.text) (string_bytes c.append_datagram.new.text) (told_in packet.content) (endpoint_of it.from) (endpoint_of it.to)
+    it.bytes.now (ap told_in it.is ∙ ap told_of (rw it.is at it.field-0-is)) c.in_ok-append_time_if-in-Some-Datagram.ensures
+    c.in_ok-append_datagram-in-Some-Datagram.ensures

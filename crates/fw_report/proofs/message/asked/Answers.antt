@@ -15,5 +15,5 @@ returns-in-Ok-read_request c =
         wraps = c.in-Ok.ensures.found;
         spells = c.in-Ok-read_request.ensures.found;
       },
-      rw c.plan.ensures at c.ask_of.ensures,
+      rw (c.plan.ensures, c.addressed_by.ensures) at c.ask_of.ensures,
     )
