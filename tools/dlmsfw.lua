@@ -87,14 +87,20 @@ dlmsfw.fields = fields
 local note_says = ProtoField.string("dlmsfw_note.says", "Says")
 note.fields = { note_says }
 
--- ---- bytes that are read from left to right; each read answers nothing where they lack
+-- ---- bytes that are read from left to right, up to the first fault
 
+-- Ends the reading of a datagram for this fault.
+local function fail(fault)
+  error({ fault = fault }, 0)
+end
+
+-- The part is what lacks a byte where one lacks: the APDU, or a Data in it.
 local function reader(buffer, offset)
-  return { buffer = buffer, at = offset, last = buffer:len() }
+  return { buffer = buffer, at = offset, last = buffer:len(), part = "APDU" }
 end
 
 local function take(bytes, count)
-  if bytes.at + count > bytes.last then return nil end
+  if bytes.at + count > bytes.last then fail(bytes.part .. " Truncated") end
   local range = bytes.buffer(bytes.at, count)
   bytes.at = bytes.at + count
   return range
@@ -102,45 +108,49 @@ end
 
 local function number(bytes, count)
   local range = take(bytes, count)
-  return range and range:uint(), range
+  return range:uint(), range
+end
+
+local function ends(bytes)
+  if bytes.at ~= bytes.last then fail("APDU Trailing") end
 end
 
 local function length(bytes)
   local first = number(bytes, 1)
-  if not first then return nil end
   if first < 0x80 then return first end
-  if first < 0x81 or first > 0x84 then return nil end
+  if first < 0x81 or first > 0x84 then fail("Data BadLength") end
   return (number(bytes, first - 0x80))
 end
 
--- ---- A-XDR Data: a table with its tag and what it holds, or nothing where it is refused
+-- ---- A-XDR Data: a table with its tag and what it holds
 
 local SIZES = { [0] = 0, [3] = 1, [5] = 4, [6] = 4, [15] = 1, [16] = 2, [17] = 1, [18] = 2, [20] = 8, [21] = 8, [22] = 1 }
 
 local function read_data(bytes, depth)
-  if depth > MAX_DEPTH then return nil end
   local tag = number(bytes, 1)
-  if not tag then return nil end
+  if depth > MAX_DEPTH then fail("Data TooDeep") end
   if SIZES[tag] == 0 then return { tag = tag } end
-  if SIZES[tag] then
-    local range = take(bytes, SIZES[tag])
-    return range and { tag = tag, range = range }
-  end
-  if tag ~= 1 and tag ~= 2 and tag ~= 4 and tag ~= 9 and tag ~= 10 then return nil end
+  if SIZES[tag] then return { tag = tag, range = take(bytes, SIZES[tag]) } end
+  if tag ~= 1 and tag ~= 2 and tag ~= 4 and tag ~= 9 and tag ~= 10 then fail("Data UnknownTag") end
   local count = length(bytes)
-  if not count then return nil end
   if tag == 1 or tag == 2 then
     local items = {}
     for i = 1, count do
       items[i] = read_data(bytes, depth + 1)
-      if not items[i] then return nil end
     end
     return { tag = tag, count = count, items = items }
   end
   local size = tag == 4 and math.floor((count + 7) / 8) or count
-  if bytes.at + size > bytes.last then return nil end
   local range = size > 0 and take(bytes, size) or nil
   return { tag = tag, count = count, range = range }
+end
+
+-- The Data that an APDU ends with.
+local function last_data(bytes)
+  bytes.part = "Data"
+  local data = read_data(bytes, 1)
+  ends(bytes)
+  return data
 end
 
 -- ---- image names
@@ -173,7 +183,7 @@ local function title(name)
   return string.format("%s release %u", words, name.release)
 end
 
--- ---- what is said: words, or nothing where a datagram can't be read
+-- ---- what is said
 
 local function show_octets(tree, data)
   local name = name_of(data.range, data.count)
@@ -202,13 +212,14 @@ local function brief(tree, data)
   return "?"
 end
 
--- The two elements of a structure, of these tags.
+-- The two elements of a structure, of these tags, or nothing.
 local function two(data, first, second)
   if not data or data.tag ~= 2 or data.count ~= 2 then return nil end
   if data.items[1].tag ~= first or data.items[2].tag ~= second then return nil end
   return data.items[1], data.items[2]
 end
 
+-- What is said of a method of Image transfer, or nothing where its parameter has another shape.
 local function says_method(tree, method, parameter)
   if method == 1 then
     local identifier, size = two(parameter, 9, 6)
@@ -232,7 +243,6 @@ local function read_descriptor(tree, bytes, is_action)
   local class, class_range = number(bytes, 2)
   local instance = take(bytes, 6)
   local range = take(bytes, 1)
-  if not range then return nil end
   local text = string.format("%u-%u:%u.%u.%u.%u", instance(0, 1):uint(), instance(1, 1):uint(), instance(2, 1):uint(),
     instance(3, 1):uint(), instance(4, 1):uint(), instance(5, 1):uint())
   tree:add(fields.class, class_range)
@@ -241,27 +251,13 @@ local function read_descriptor(tree, bytes, is_action)
   local item = tree:add(is_action and fields.method or fields.attribute, range)
   if name then item:append_text(" (" .. name .. ")") end
   local object = OBJECTS[tostring(instance:bytes()):lower()]
-  return { number = range:int(), object = object and object.class == class and object or nil }
+  local words = string.format("class %u %s %s %d", class, text, is_action and "method" or "attribute", range:int())
+  return { words = words, number = range:int(), object = object and object.class == class and object or nil }
 end
 
-local function says_request(tree, service, bytes)
-  local asked = read_descriptor(tree, bytes, service == 0xc3)
-  local choice = asked and number(bytes, 1)
-  if not choice then return nil end
-  local data
-  if service == 0xc3 then
-    if choice ~= 0 then
-      data = read_data(bytes, 1)
-      if not data then return nil end
-    end
-  else
-    if choice ~= 0 then return nil end
-    if service == 0xc1 then
-      data = read_data(bytes, 1)
-      if not data then return nil end
-    end
-  end
-  if bytes.at ~= bytes.last or not asked.object then return nil end
+-- What is said of an attribute or a method that a meter has, or nothing.
+local function says_known(tree, service, asked, data)
+  if not asked.object then return nil end
   if service == 0xc0 then
     local name = asked.object.says[asked.number]
     return name and "get " .. name
@@ -272,48 +268,50 @@ local function says_request(tree, service, bytes)
   return data.range:uint() == 0 and "disable" or "enable"
 end
 
+local WORDS = { [0xc0] = "get ", [0xc1] = "set ", [0xc3] = "action " }
+
+local function says_request(tree, service, bytes)
+  local asked = read_descriptor(tree, bytes, service == 0xc3)
+  local choice = number(bytes, 1)
+  if service ~= 0xc3 and choice ~= 0 then fail("APDU UnsupportedForm") end
+  local data
+  if service == 0xc1 or choice ~= 0 then data = last_data(bytes) end
+  ends(bytes)
+  return says_known(tree, service, asked, data) or WORDS[service] .. asked.words
+end
+
 local function show_result(tree, bytes)
   local code, range = number(bytes, 1)
-  if code then tree:add(fields.result, range) end
+  tree:add(fields.result, range)
   return code
 end
 
 -- A Get-Data-Result: a Data, or a code, with what it says.
 local function get_data_result(tree, bytes)
   local choice = number(bytes, 1)
-  if choice == 0 then
-    local data = read_data(bytes, 1)
-    return data and brief(tree, data)
-  elseif choice == 1 then
-    local code = show_result(tree, bytes)
-    return code and string.format("code %u", code)
-  end
+  if choice == 0 then return brief(tree, last_data(bytes)) end
+  if choice ~= 1 then fail("APDU UnsupportedForm") end
+  return string.format("code %u", show_result(tree, bytes))
 end
 
 local function says_response(tree, service, bytes)
   local words
   if service == 0xc4 then
-    local got = get_data_result(tree, bytes)
-    words = got and "get " .. got
+    words = "get " .. get_data_result(tree, bytes)
   else
-    local code = show_result(tree, bytes)
-    words = code and string.format(service == 0xc5 and "set %u" or "action %u", code)
-    if code and service == 0xc7 then
-      local returned = number(bytes, 1)
-      if not returned or (returned ~= 0 and not get_data_result(tree, bytes)) then return nil end
-    end
+    words = string.format(service == 0xc5 and "set %u" or "action %u", show_result(tree, bytes))
+    if service == 0xc7 and number(bytes, 1) ~= 0 then get_data_result(tree, bytes) end
   end
-  if bytes.at ~= bytes.last then return nil end
+  ends(bytes)
   return words
 end
 
 local function says_apdu(tree, bytes)
   local service, service_range = number(bytes, 1)
-  if not service or not SERVICES[service] then return nil end
+  if not SERVICES[service] then fail("APDU UnknownService") end
   tree:add(fields.service, service_range)
-  local form = number(bytes, 1)
+  if number(bytes, 1) ~= 1 then fail("APDU UnsupportedForm") end
   local _, invoke = number(bytes, 1)
-  if form ~= 1 or not invoke then return nil end
   tree:add(fields.invoke, invoke)
   if service < 0xc4 then return says_request(tree, service, bytes) end
   return says_response(tree, service, bytes)
@@ -321,9 +319,13 @@ end
 
 -- ---- the wrapper
 
-local function is_wrapped(buffer)
+-- What is wrong with the wrapper, if something is.
+local function wrapper_fault(buffer)
   local size = buffer:len()
-  return size >= 8 and size <= 8 + MAX_APDU and buffer(0, 2):uint() == 1 and buffer(6, 2):uint() == size - 8
+  if size < 8 then return "wrapper Short" end
+  if buffer(0, 2):uint() ~= 1 then return "wrapper Version" end
+  if buffer(6, 2):uint() ~= size - 8 then return "wrapper Length" end
+  if size > 8 + MAX_APDU then return "wrapper TooLong" end
 end
 
 function dlmsfw.dissector(buffer, pinfo, tree)
@@ -331,21 +333,29 @@ function dlmsfw.dissector(buffer, pinfo, tree)
   pinfo.cols.protocol = "dlmsfw"
   local part = tree:add(dlmsfw, buffer())
   local words
-  if is_wrapped(buffer) then
+  local fault = wrapper_fault(buffer)
+  if not fault then
     part:add(fields.version, buffer(0, 2))
     part:add(fields.source, buffer(2, 2))
     part:add(fields.destination, buffer(4, 2))
     part:add(fields.length, buffer(6, 2))
-    words = says_apdu(part, reader(buffer, 8))
+    local is_read, said = pcall(says_apdu, part, reader(buffer, 8))
+    if is_read then
+      words = said
+    elseif type(said) == "table" then
+      fault = said.fault
+    else
+      error(said, 0)
+    end
   end
-  words = words or string.format("? (%u bytes)", size)
+  words = words or string.format("? (%u bytes), %s", size, fault)
   part:add(fields.says, words):set_generated()
   pinfo.cols.info = words
   return size
 end
 
 local function heuristic(buffer, pinfo, tree)
-  if not is_wrapped(buffer) or buffer:len() < 9 or not SERVICES[buffer(8, 1):uint()] then return false end
+  if wrapper_fault(buffer) or buffer:len() < 9 or not SERVICES[buffer(8, 1):uint()] then return false end
   dlmsfw.dissector(buffer, pinfo, tree)
   return true
 end

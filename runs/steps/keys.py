@@ -5,6 +5,8 @@ import re
 import stat
 
 from common import Place, wants
+from cuts import lefts, power, recorded_run
+from disk import key
 
 LISTEN = "127.0.0.1:4058"
 METERS = (1, 5, 4294967295)
@@ -98,6 +100,20 @@ def keys_are_written_over_no_file(place):
     wants(os.listdir(linked) == ["head.keys"], f"behind a link there are {os.listdir(linked)}")
 
 
+# To be seen: a file of keys that a power cut may take away once it is told, or some of its bytes.
+def keys_outlive_cuts(place):
+    """Before the first file is told all are synced, with their names."""
+    listed(place.folder)
+    status, out, calls = recorded_run(place, place.folder, "keys", "--meters", "meters.csv", "--head", "7", "--listen", LISTEN)
+    files = {f"./{name}": content for name, content in held(place.folder).items() if name.endswith(".keys")}
+    wants((status, out) == (0, "".join(f"made ./{name}\n" for name in ("head.keys", *(f"meter.{meter}.keys" for meter in METERS)))),
+          f"it ends with {status}, and prints {out!r}")
+    disk, told = power.Sectors(), next(at for at, (word, *_) in enumerate(calls) if word == "print")
+    for call in calls[:told]:
+        disk.take(*call)
+    wants(lefts(disk) == {key(files)}, f"a cut leaves one of {lefts(disk)}")
+
+
 # To be seen: a fault without its place or cause, or with another; a making that takes an address which no meter sees.
 def keys_are_refused(place):
     """A making that can't be is refused before any file, and says why."""
@@ -139,4 +155,4 @@ def keys_of_others_are_refused(place):
     wants(not made_files, f"it leaves {made_files}")
 
 
-STEPS = [keys_are_made, keys_are_written_over_no_file, keys_are_refused, keys_of_others_are_refused]
+STEPS = [keys_are_made, keys_are_written_over_no_file, keys_outlive_cuts, keys_are_refused, keys_of_others_are_refused]

@@ -397,16 +397,50 @@ def verifies_in_turns(place):
     """An image of 40 slices is verified if nothing comes, and by the second meter of a fleet among what strangers send."""
     image = bytes(range(256)) * 640
     digest = hashlib.sha256(image).hexdigest()
-    told, head = [f"activated 7 1 0 {digest}\n"], Head()
+    told, head = f"activated 7 1 0 {digest}\n", Head()
     with Meter(place.folder / "meter.fw", "--head", head.address()).killed() as meter:
         brought(head, meter, image)
-        wait_for(lambda: meter.lines == told, f"the meter doesn't print {told}")
+        wait_for(lambda: meter.lines == [told], f"the meter doesn't print {told}")
     fleet = Members(place.folder, 2, "--head", head.address())
     with fleet.meter.killed():
         brought(head, fleet.at[1], image, noise=bound())
         names = [head.ask_until(meter, GET_NAME) for meter in fleet.at]
     wants(names[0] == RUNS_ABC and names[1].endswith(digest), f"the meters of the fleet run {names}")
-    wants(fleet.meter.lines[1:] == told, f"the fleet prints {fleet.meter.lines}")
+    wants(fleet.meter.lines[1:] == [f"meter 2 {told}"], f"the fleet prints {fleet.meter.lines}")
+
+
+# ---- fleets
+
+
+# To be seen: a fleet that waits after each pass, or after one in which the last meter alone heard nothing; one whose first meter has all turns
+# as long as datagrams come to it.
+def a_flooded_fleet_hears(place):
+    """While a stranger's datagrams come to the first meter of a fleet without end, the others answer, and nothing is waited for."""
+    head = Head()
+    fleet = Members(place.folder, 3, "--head", head.address(), env=place.preloaded("flood"))
+    with fleet.meter.killed() as meter:
+        for asked in 2 * fleet.at[1:]:
+            got = head.ask(asked, GET_STATUS)
+            wants(got == STATUS % 0, f"beside a flooded meter it answers {got}, and ends with {meter.process.poll()}")
+
+
+def rests_of(process):
+    """How often a process has waited by itself."""
+    return int(re.search(r"^voluntary_ctxt_switches:\s*(\d+)$", pathlib.Path(f"/proc/{process.pid}/status").read_text(), re.M)[1])
+
+
+# To be seen: a fleet that never waits.
+def a_quiet_fleet_rests(place):
+    """A fleet to which nothing comes waits again and again, also after something came, and doesn't take the processor for itself."""
+    head, fleet = Head(), Members(place.folder, 2)
+    with fleet.meter.killed() as meter:
+        for _ in range(2):
+            before, began = rests_of(meter.process), time.monotonic()
+            time.sleep(SILENCE)
+            rests, seconds = rests_of(meter.process) - before, time.monotonic() - began
+            wants(rests > 100 * seconds, f"in {seconds} s of silence it waits {rests} times")
+            got = head.ask(fleet.at[1], GET_STATUS)
+            wants(got == STATUS % 0, f"then it answers {got}")
 
 
 STEPS = [
@@ -424,4 +458,6 @@ STEPS = [
     strangers_are_captured,
     a_capture_that_fails_is_told,
     verifies_in_turns,
+    a_flooded_fleet_hears,
+    a_quiet_fleet_rests,
 ]

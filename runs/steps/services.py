@@ -50,6 +50,46 @@ def a_second_start_goes_on(place):
         fleet.run(image)
 
 
+def unlisted(serial, meter):
+    """What a head end says of a live row whose meter has no line in its list."""
+    return f"campaign 7 {serial}: meter {meter} isn't in the list, and isn't led"
+
+
+# To be seen: a list in another order that is refused, or opened for again; a new meter that is refused, that gets no campaign or one under a
+# serial number that is used, or for which all are opened for again; a row without a line that is refused, led, waited for, or not told; a
+# status of 0 where there is one, or another where there is none; a row that ended which is told.
+def a_list_changes(place):
+    """With the same --open a list in another order opens nothing, and one with a new meter a campaign for that one alone. A live row whose meter
+    isn't in the list is told and isn't asked, and the others are led to their ends."""
+    image, silent = bytes(range(256)) * 4, bound()
+    digest = hashlib.sha256(image).hexdigest()
+    with Fleet(place.folder, 3).killed() as fleet:
+        first, second, third = (fleet.addresses[number] for number in (1, 2, 3))
+        words, nobody = opening(place.folder, image, 5), name_of(silent.getsockname())
+        fleet.list({2: nobody, 1: first})
+        with HeadEnd(place.folder, "--new", *words, *PATIENT).running() as head:
+            lines = lines_until(head, "row ")
+        wants(lines[1:] == [f"opened 7 5 2 {digest}", "row 7 5 1 done"], f"at first it prints {lines}")
+        drained(silent)
+        # In another order, with a new meter, and without meter 2.
+        fleet.list({3: third, 1: first})
+        for opened, done in (True, 1), (False, 0):
+            status, lines, said = HeadEnd(place.folder, *words).end(patience=PATIENCE)
+            wanted = [f"opened 7 6 2 {digest}", "row 7 6 3 done"] if opened else []
+            wants((status, lines[1:], said) == (5, [*wanted, f"over done {done} failed 0"], [unlisted(5, 2)]), f"it ends with {status}, {lines} and {said}")
+        stays_silent(silent, seconds=0)
+        # All three, the last first. Meter 2 is there now, at another address.
+        fleet.list({3: third, 2: second, 1: first})
+        lines = HeadEnd(place.folder, *words).over()
+        wants(lines[1:] == ["row 7 5 2 done", "over done 1 failed 0"], f"at last it prints {lines}")
+        wants(rows_of(place.folder) == ["7,5,2,done", "7,5,1,done", "7,6,3,done"], "status has other rows")
+        # Rows that ended need no line.
+        fleet.list({3: third})
+        lines = HeadEnd(place.folder).over()
+        wants(lines[1:] == ["over done 0 failed 0"], f"with one line it prints {lines}")
+        fleet.run(image)
+
+
 # To be seen: a cancel that cancels nothing, or in memory alone; one that cancels another campaign, or all; one that is told and not done; a
 # cancelled row that is led on.
 def a_campaign_is_cancelled(place):
@@ -75,6 +115,49 @@ def a_campaign_is_cancelled(place):
     refused(place, "NotLive", "--cancel 1", "--cancel", "1")
 
 
+# To be seen: a range without its first or its last campaign, or with one beside it; one that is refused since a number of it has no campaign, or
+# one without a live row; one that cancels what ended; a campaign that is cancelled twice, and refused then; another order; a row that is led on.
+def campaigns_are_cancelled_by_ranges(place):
+    """Of ranges those campaigns are cancelled that have live rows, each once, in the order given; and what is cancelled lets go of its meters
+    before campaigns are opened."""
+    sockets = [bound() for _ in range(5)]
+    lines = [f"{number},{name_of(sock.getsockname())}\n" for number, sock in enumerate(sockets, 1)]
+    meters = place.folder / "meters.csv"
+    for number, serial in enumerate((2, 3, 5, 9, 10), 1):
+        meters.write_text(lines[number - 1])
+        words = opening(place.folder, f"image {number}".encode(), serial)
+        with HeadEnd(place.folder, *(["--new"] if number == 1 else []), *words, *PATIENT).running() as head:
+            lines_until(head, f"opened 7 {serial} ")
+    meters.write_text("".join(lines))
+    for sock in sockets:
+        drained(sock)
+    with HeadEnd(place.folder, "--cancel", "10,3-8,1-3", *PATIENT).running() as head:
+        said = lines_until(head, "cancelled 7 2")
+        received(sockets[3])
+        stays_silent(*sockets[:3], sockets[4], seconds=0)
+    wants(said[1:] == ["cancelled 7 10", "cancelled 7 3", "cancelled 7 5", "cancelled 7 2"], f"it prints {said}")
+    states = ["7,2,1,cancelled", "7,3,2,cancelled", "7,5,3,cancelled", "7,9,4,live", "7,10,5,cancelled"]
+    wants(rows_of(place.folder) == states, f"status has other rows than {states}")
+    # Ranges without live rows cancel nothing; what is opened next is for meters that are let go of.
+    again = opening(place.folder, b"the next image", 9)
+    with HeadEnd(place.folder, "--cancel", "1-3,9-9,4-8", *again, *PATIENT).running() as head:
+        said = lines_until(head, "opened ")
+    digest = hashlib.sha256(b"the next image").hexdigest()
+    wants(said[1:] == ["cancelled 7 9", f"opened 7 11 2 {digest}"], f"it prints {said}")
+    status, said, _ = HeadEnd(place.folder, "--cancel", "1-4294967295").end(patience=PATIENCE)
+    wants((status, said[1:]) == (0, ["cancelled 7 11", "over done 0 failed 0"]), f"it ends with {status}, and prints {said}")
+
+
+# To be seen: a value of --cancel that is taken though it names no campaigns, or another one; a wrong one that makes a book.
+def what_names_no_campaigns_is_refused(place):
+    """A value of --cancel that is no list of serial numbers and ranges is a wrong command line."""
+    listed(place.folder, [(HOST, 9)])
+    for text in ("", "0", "7,", ",7", "7,,9", "7-", "-7", "9-7", "0-7", "7-9-11", "7 9", "seven", "4294967296", "7-4294967296", "7..9"):
+        status, out, said = place.run("head", "--head", 7, "--book", "head.book", "--new", "--meters", "meters.csv", "--listen", f"{HOST}:0", f"--cancel={text}")
+        wants((status, out) == (2, "") and said[0].startswith("error: "), f"--cancel={text} ends with {status}, {out} and {said}")
+    wants(not (place.folder / "head.book").exists(), "a wrong command line makes a book")
+
+
 def begins(text, wanted):
     """Whether a line is this one, or goes on behind it with a cause."""
     return text == wanted or text.startswith(f"{wanted}: ")
@@ -90,8 +173,8 @@ def refused(place, fault, about, *words, head="7", **how):
     wants((path.read_bytes() if path.exists() else None) == before, f"at {fault} the book is changed")
 
 
-# To be seen: a head end that leads another one's book, or one that another process has; that begins without an address; that opens under a
-# serial number that is used, or for a meter that is busy; that takes damaged bytes for a book; a fault with another name, or a status of 0; another line of a list.
+# To be seen: a head end that leads another one's book, or one that another process has; that opens for a meter that is busy; that takes
+# damaged bytes for a book; a fault with another name, or a status of 0; another line of a list; one that cancels before all is judged.
 def a_head_end_is_refused(place):
     """Each fault of a head end whose book is there has its name, and the option that it is about, and leaves the book as it is."""
     folder, silent = place.folder, bound()
@@ -104,12 +187,14 @@ def a_head_end_is_refused(place):
         refused(place, "Locked", f"--book {book}")
         refused(place, "BookExists", f"--book {book}", "--new")
     refused(place, "ForeignHead", f"--book {book}", head="8")
-    refused(place, "SerialUsed", "--open 1", *opening(folder, b"two"))
-    refused(place, "SerialUsed", "--open 1", "--open", "1", "--release", "3", "--image", image)
+    # Another image, another release, and a later serial number.
+    refused(place, "MeterBusy", "--open 1", *opening(folder, b"two"))
+    refused(place, "MeterBusy", "--open 1", "--open", "1", "--release", "3", "--image", image)
     refused(place, "MeterBusy", "--open 2", *opening(folder, b"two", 2))
     refused(place, "NoSuchCampaign", "--cancel 3", "--cancel", "3")
-    meters.write_text("2,127.0.0.1:9\n")
-    refused(place, "NoAddress 1", f"--meters {meters}")
+    # Campaign 1 is there, and would be cancelled.
+    refused(place, "NoSuchCampaign", "--cancel 1,3", "--cancel", "1,3")
+    refused(place, "NoSuchCampaign", "--cancel 3,1-2", "--cancel", "3,1-2")
     meters.write_text("1,127.0.0.1:9\nnone\n")
     refused(place, "BadList 2", f"--meters {meters}")
     meters.write_text("".join(f"{number},127.0.0.1:{number}\n" for number in range(1, 258)))
@@ -228,7 +313,10 @@ def each_of_a_fleet_has_its_own(place):
 
 STEPS = [
     a_second_start_goes_on,
+    a_list_changes,
     a_campaign_is_cancelled,
+    campaigns_are_cancelled_by_ranges,
+    what_names_no_campaigns_is_refused,
     a_head_end_is_refused,
     a_meter_on_a_full_disk,
     a_store_is_written_again,

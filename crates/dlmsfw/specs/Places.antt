@@ -6,7 +6,7 @@ use Rattle.fw_disk.specs.declared.reason.Reason.{Reason}
 use Rattle.fw_disk.specs.declared.name.Name.{Name}
 use Rattle.fw_disk.specs.declared.name.Name.TheVariants.{Main}
 use Rattle.fw_faults.specs.declared.fault.Fault.{Fault}
-use Rattle.fw_faults.specs.declared.fault.Fault.TheVariants.{StoreFault, Device, BadFile, BadHeader, BadImage, FactoryFault, Socket, NoBook, BookExists, Locked, BookFault, BadBook, BadRecord, ForeignHead, Full, ListFault, BadList, NoAddress, ImageFault, BadSetup, OpenRefused, CancelRefused, CaptureFault, ForeignCapture, KeysFault, KeysReadable, BadKeys, NoKey, NoCounter, CounterExists, CounterLocked, CounterFault, CounterSpent}
+use Rattle.fw_faults.specs.declared.fault.Fault.TheVariants.{StoreFault, Device, BadFile, BadHeader, BadImage, FactoryFault, Socket, NoBook, BookExists, Locked, BookFault, BadBook, BadRecord, ForeignHead, Full, ListFault, BadList, ImageFault, BadSetup, OpenRefused, CancelRefused, CaptureFault, ForeignCapture, KeysFault, KeysReadable, BadKeys, NoKey, NoCounter, CounterExists, CounterLocked, CounterFault, CounterSpent}
 use Rattle.fw_cli.specs.declared.meter.MeterFault.{MeterFault}
 use Rattle.dlmsfw.specs.declared.cause.BookPlaces.{BookPlaces}
 use Rattle.dlmsfw.specs.declared.cause.BookPlace.{BookPlace}
@@ -75,10 +75,10 @@ book_file name places = Book (record { path = places.book; number = None; name =
 abbrev pub book_counter : Name → BookPlaces → Option BookPlace
 book_counter name places = option_map (λ path. HeadCounter (record { path = path; name = name })) places.keys
 
--- the campaign that is cancelled first, or the one that a cancelling is of
-abbrev pub cancelled_place : Option ℕ → Option ℕ → Option BookPlace
-cancelled_place (Some serial) campaign = Some (Cancel serial)
-cancelled_place None campaign = option_map Campaign campaign
+-- the campaigns that are cancelled first, or the one that a cancelling is of
+abbrev pub cancelled_place : Option BookPlace → Option BookPlace → Option BookPlace
+cancelled_place (Some first) campaign = Some first
+cancelled_place None campaign = campaign
 
 abbrev pub book_place_in : Fault → Name → BookPlaces → Option BookPlace
 book_place_in NoBook name places = Some (book_file name places)
@@ -92,11 +92,10 @@ book_place_in Full name places = Some (book_file name places)
 book_place_in Socket name places = option_map HeadListen places.listen
 book_place_in ListFault name places = option_map Meters places.meters
 book_place_in (BadList line) name places = option_map Meters places.meters
-book_place_in (NoAddress meter) name places = option_map Meters places.meters
 book_place_in ImageFault name places = option_map Image places.image
 book_place_in BadSetup name places = option_map Open places.opened
 book_place_in (OpenRefused refusal) name places = option_map Open places.opened
-book_place_in (CancelRefused refusal) name places = cancelled_place places.cancel places.campaign
+book_place_in (CancelRefused refusal) name places = cancelled_place (option_map Cancel places.cancel) (option_map Campaign places.campaign)
 book_place_in CaptureFault name places = option_map (λ path. HeadCapture (record { path = path; number = None; name = name })) places.capture
 book_place_in ForeignCapture name places = option_map (λ path. HeadCapture (record { path = path; number = None; name = name })) places.capture
 book_place_in KeysFault name places = option_map HeadKeys places.keys

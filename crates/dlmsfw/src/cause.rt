@@ -8,7 +8,7 @@ ghost use Rattle.dlmsfw.specs.Texts.{book_place_text, counter_text, file_text, p
 
 use crate::refusal;
 use crate::refusal::Refusal;
-use fw_cli::{CancelOptions, HeadOptions, MeterFault, MeterOptions, StatusOptions};
+use fw_cli::{CancelOptions, GiveUpOptions, HeadOptions, MeterFault, MeterOptions, StatusOptions};
 use fw_disk::{Because, Name, Reason};
 use fw_faults::Fault;
 use fw_host::SealingOptions;
@@ -296,7 +296,7 @@ pub(crate) fn refusal_of(
     }
 }
 
-/// The address, the files and the serial numbers that a head end is started with, or the file that `status` reads.
+/// The address, the files and the serial numbers that a head end is started with, or the file of a command over a book alone.
 #[derive(Clone, Copy)]
 pub(crate) struct BookPlaces<'a> {
     book: &'a str,
@@ -304,7 +304,8 @@ pub(crate) struct BookPlaces<'a> {
     meters: Option<&'a str>,
     image: Option<&'a str>,
     opened: Option<u32>,
-    cancel: Option<u32>,
+    /// The campaigns that are cancelled first, as they were given.
+    cancel: Option<&'a str>,
     /// The campaign that a cancelling is of.
     campaign: Option<u32>,
     capture: Option<&'a str>,
@@ -312,8 +313,8 @@ pub(crate) struct BookPlaces<'a> {
 }
 
 impl<'a> BookPlaces<'a> {
-    /// Those of these options.
-    pub(crate) fn of_head(options: &HeadOptions<'a>) -> BookPlaces<'a> {
+    /// Those of these options, of which the campaigns that are cancelled first were given so.
+    pub(crate) fn of_head(options: &HeadOptions<'a>, cancel: Option<&'a str>) -> BookPlaces<'a> {
         let (image, opened) = match options.opening {
             Some(opening) => (Some(opening.image), Some(opening.serial)),
             None => (None, None),
@@ -324,7 +325,7 @@ impl<'a> BookPlaces<'a> {
             meters: Some(options.meters),
             image,
             opened,
-            cancel: options.cancel,
+            cancel,
             campaign: None,
             capture: options.capture,
             keys: keys_of(options.sealing),
@@ -333,29 +334,29 @@ impl<'a> BookPlaces<'a> {
 
     /// Those of these options, and of the campaign that couldn't be cancelled.
     pub(crate) fn of_cancel(options: &CancelOptions<'a>, campaign: Option<u32>) -> BookPlaces<'a> {
+        BookPlaces::of_book(options.book, campaign)
+    }
+
+    /// Those of these options.
+    pub(crate) fn of_give_up(options: &GiveUpOptions<'a>) -> BookPlaces<'a> {
+        BookPlaces::of_book(options.book, None)
+    }
+
+    /// Those of these options.
+    pub(crate) fn of_status(options: &StatusOptions<'a>) -> BookPlaces<'a> {
+        BookPlaces::of_book(options.book, None)
+    }
+
+    /// Those of a command over this book alone.
+    fn of_book(book: &'a str, campaign: Option<u32>) -> BookPlaces<'a> {
         BookPlaces {
-            book: options.book,
+            book,
             listen: None,
             meters: None,
             image: None,
             opened: None,
             cancel: None,
             campaign,
-            capture: None,
-            keys: None,
-        }
-    }
-
-    /// Those of these options.
-    pub(crate) fn of_status(options: &StatusOptions<'a>) -> BookPlaces<'a> {
-        BookPlaces {
-            book: options.book,
-            listen: None,
-            meters: None,
-            image: None,
-            opened: None,
-            cancel: None,
-            campaign: None,
             capture: None,
             keys: None,
         }
@@ -375,8 +376,8 @@ pub(crate) enum BookPlace<'a> {
     Image(&'a str),
     /// The first campaign that is opened.
     Open(u32),
-    /// The campaign that is cancelled first.
-    Cancel(u32),
+    /// The campaigns that are cancelled first.
+    Cancel(&'a str),
     /// The campaign that is cancelled.
     Campaign(u32),
     /// The file of the capture.
@@ -397,7 +398,7 @@ impl fmt::Display for BookPlace<'_> {
             BookPlace::Meters(file) => write!(f, "--meters {file}"),
             BookPlace::Image(file) => write!(f, "--image {file}"),
             BookPlace::Open(serial) => write!(f, "--open {serial}"),
-            BookPlace::Cancel(serial) => write!(f, "--cancel {serial}"),
+            BookPlace::Cancel(serials) => write!(f, "--cancel {serials}"),
             BookPlace::Campaign(serial) => write!(f, "--campaign {serial}"),
             BookPlace::HeadCapture(file) => write!(f, "--capture {file}"),
             BookPlace::HeadKeys(file) => write!(f, "--keys {file}"),
@@ -428,13 +429,11 @@ pub(crate) fn book_place_of<'a>(
             name,
         })),
         Fault::Socket => Some(BookPlace::HeadListen(places.listen?)),
-        Fault::ListFault | Fault::BadList(_) | Fault::NoAddress(_) => Some(BookPlace::Meters(
-            places.meters?,
-        )),
+        Fault::ListFault | Fault::BadList(_) => Some(BookPlace::Meters(places.meters?)),
         Fault::ImageFault => Some(BookPlace::Image(places.image?)),
         Fault::BadSetup | Fault::OpenRefused(_) => Some(BookPlace::Open(places.opened?)),
         Fault::CancelRefused(_) => match places.cancel {
-            Some(serial) => Some(BookPlace::Cancel(serial)),
+            Some(serials) => Some(BookPlace::Cancel(serials)),
             None => Some(BookPlace::Campaign(places.campaign?)),
         },
         Fault::CaptureFault | Fault::ForeignCapture => Some(BookPlace::HeadCapture(NamedFile {

@@ -8,7 +8,9 @@ ghost use Rattle.std.specs.Process.{exit_status};
 ghost use Rattle.clap.specs.Values.{kind_of};
 ghost use Rattle.fw_cli.specs.Beginning.{HasLedOut};
 ghost use Rattle.fw_cli.specs.Cancelling.{HasCancelled};
-ghost use Rattle.fw_cli.specs.declared.head.LedOut.TheVariants.{NoneFailed, SomeFailed};
+ghost use Rattle.fw_cli.specs.GivingUp.{HasGivenUp};
+ghost use Rattle.fw_cli.specs.declared.give_up.GaveUp.TheVariants.{Each, NotEach};
+ghost use Rattle.fw_cli.specs.declared.head.LedOut.TheVariants.{NoneFailed, SomeFailed, SomeUnlisted};
 ghost use Rattle.fw_cli.specs.Faults.{ComesBeforeOutput, IsOfTrace};
 ghost use Rattle.fw_cli.specs.Tracing.{AreOfFile, WritesTrace};
 ghost use Rattle.fw_disk.specs.declared.reason.Reason.{Reason};
@@ -27,11 +29,11 @@ mod trace_places;
 use cause::{BookPlaces, MeterPlaces, NamedFile, Place};
 use clap::error::ErrorKind;
 use fw_cli::{
-    AnswerOptions, CancelFault, CancelOptions, Ended, HeadOptions, KeysFailure, KeysOptions,
-    LedOut, LiveOptions, MeterFault, MeterOptions, NameOptions, RehearseOptions, ReplayOptions,
-    StatusOptions, StoredOptions, TraceKeys, run_answer, run_answer_stored, run_cancel, run_head,
-    run_keys, run_live, run_meter, run_name, run_rehearse, run_replay, run_status, run_trace,
-    trace_links,
+    AnswerOptions, CancelFault, CancelOptions, Ended, GaveUp, GiveUpOptions, HeadOptions,
+    KeysFailure, KeysOptions, LedOut, LiveOptions, MeterFault, MeterOptions, NameOptions,
+    RehearseOptions, ReplayOptions, StatusOptions, StoredOptions, TraceKeys, run_answer,
+    run_answer_stored, run_cancel, run_give_up, run_head, run_keys, run_live, run_meter, run_name,
+    run_rehearse, run_replay, run_status, run_trace, trace_links,
 };
 use fw_disk::{Because, Cause, Name, Reason};
 use fw_faults::Fault;
@@ -70,6 +72,12 @@ const WRONG_COMMAND_LINE: u8 = 2;
 /// The status of a head end none of whose rows is live, and one of which failed.
 const ROWS_FAILED: u8 = 4;
 
+/// The status of a head end of whose rows those alone are live whose meters aren't in its list.
+const ROWS_UNLISTED: u8 = 5;
+
+/// The status where a row was to be given up of a meter that has none.
+const ROWS_LACKING: u8 = 5;
+
 /// What ends the program before its work is done.
 #[derive(Drop)]
 enum Ending<'a> {
@@ -91,6 +99,10 @@ enum Ending<'a> {
     Refused,
     /// A row that a head end led failed, and the command has reported it.
     RowsFailed,
+    /// Rows are live whose meters aren't in the list of a head end, and the command has told them.
+    RowsUnlisted,
+    /// A meter whose row was to be given up has none, and the command has reported it.
+    RowsLacking,
     /// A wrong command line, or one that asks for help or the version.
     CommandLine(clap::Error),
     /// A command line that isn't UTF-8 text.
@@ -175,11 +187,12 @@ fn run_command<
         Invocation::Live(options, to) => live(rt, terminal, options, to),
         Invocation::Trace(options) => trace_to_output(rt, &options),
         Invocation::Meter(options) => meter(rt, options),
-        Invocation::Head(options, every) => {
-            let progress = progress_on(terminal.is_some(), every);
-            head(rt, progress, &options)
+        Invocation::Head(options, shown) => {
+            let progress = progress_on(terminal.is_some(), shown.every);
+            head(rt, progress, &options, shown.cancel)
         }
         Invocation::Cancel(options) => cancel(rt, &options),
+        Invocation::GiveUp(options) => give_up(rt, &options),
         Invocation::Keys(options) => keys(rt, &options),
         Invocation::Status(options) => status(rt, options),
     }
@@ -337,6 +350,7 @@ fn trace_with<'a, R: AllocGlobal + Files<File = File> + Input + Print>(
         rt,
         rt.alloc(),
         links,
+        options.times,
         reader,
         writer,
         &mut plain,
@@ -381,21 +395,24 @@ fn progress_on(is_terminal: bool, every: u32) -> ProgressOutput {
     }
 }
 
-/// `head`, until no row is live.
+/// `head`, until no row is live that it leads. The campaigns that it cancels first were given so.
 fn head<'a, R: AllocGlobal + Files<File = File> + Clock + Print + Eprint + Net + Wait>(
     rt: &R,
     progress: ProgressOutput,
     options: &HeadOptions<'a>,
+    cancel: Option<&'a str>,
 ) -> Result<(), Ending<'a>>
     ensures led { OnOk result (HasLedOut options.now NoneFailed) }
     ensures failed { IfErr result (λ e. e ≡ Ending.RowsFailed → HasLedOut options.now SomeFailed) }
+    ensures unlisted { IfErr result (λ e. e ≡ Ending.RowsUnlisted → HasLedOut options.now SomeUnlisted) }
     ensures stays { OnOk result (options.now.stays ≡ false) }
 {
     let writer = &mut io::writer(rt);
     match run_head(rt, rt.alloc(), writer, progress, options) {
         Ok(LedOut::NoneFailed) => Ok(()),
         Ok(LedOut::SomeFailed) => Err(Ending::RowsFailed),
-        Err(because) => Err(Ending::Book(because, BookPlaces::of_head(options))),
+        Ok(LedOut::SomeUnlisted) => Err(Ending::RowsUnlisted),
+        Err(because) => Err(Ending::Book(because, BookPlaces::of_head(options, cancel))),
     }
 }
 
@@ -420,6 +437,22 @@ fn cancel<'a, R: AllocGlobal + Files<File = File> + Print + Eprint>(
                 BookPlaces::of_cancel(options, serial),
             ))
         }
+    }
+}
+
+/// `give-up`.
+fn give_up<'a, R: AllocGlobal + Files<File = File> + Clock + Print + Eprint>(
+    rt: &R,
+    options: &GiveUpOptions<'a>,
+) -> Result<(), Ending<'a>>
+    ensures each { OnOk result (HasGivenUp options.now Each) }
+    ensures lacking { IfErr result (λ e. e ≡ Ending.RowsLacking → HasGivenUp options.now NotEach) }
+{
+    let writer = &mut io::writer(rt);
+    match run_give_up(rt, rt.alloc(), writer, options) {
+        Ok(GaveUp::Each) => Ok(()),
+        Ok(GaveUp::NotEach) => Err(Ending::RowsLacking),
+        Err(because) => Err(Ending::Book(because, BookPlaces::of_give_up(options))),
     }
 }
 
@@ -475,12 +508,13 @@ fn trace<F: Files<File = File>, R: Read, W: Write, C: Write>(
     rt: &F,
     alloc: Global,
     links: &[Link],
+    times: bool,
     reader: &mut R,
     writer: &mut W,
     plain: &mut Option<C>,
     capture: Option<&str>,
 ) -> Result<(), TraceFault>
-    ensures input { capture.entry ≡ None → OnOk result (WritesTrace links.now None (R.remaining reader.old) (R.remaining reader.new)
+    ensures input { capture.entry ≡ None → OnOk result (WritesTrace times links.now None (R.remaining reader.old) (R.remaining reader.new)
         (W.contents writer.old) (W.contents writer.new) (option_map C.contents plain.old) (option_map C.contents plain.new)) }
 
     // If a file is named, standard input isn't read.
@@ -491,10 +525,10 @@ fn trace<F: Files<File = File>, R: Read, W: Write, C: Write>(
     ensures faults { IfErr result (λ e. IsOfTrace (trace_fault_of e)) }
 {
     let Some(path) = capture else {
-        return Ok(run_trace(alloc, links, reader, writer, plain)?);
+        return Ok(run_trace(alloc, links, times, reader, writer, plain)?);
     };
     match File::open(rt, path) {
-        Ok(mut file) => Ok(run_trace(alloc, links, &mut file, writer, plain)?),
+        Ok(mut file) => Ok(run_trace(alloc, links, times, &mut file, writer, plain)?),
         Err(error) => {
             let reason = Cause::from(error).at(Name::Main);
             Err(TraceFault::Unopened(reason))
@@ -545,6 +579,8 @@ fn report(rt: &(impl Print + Eprint + Net + Files), ending: Ending<'_>) -> ExitC
         Ending::Keys(failure, places) => fail_keys(rt, &failure, &places),
         Ending::Refused => ExitCode::from(FAULT),
         Ending::RowsFailed => ExitCode::from(ROWS_FAILED),
+        Ending::RowsUnlisted => ExitCode::from(ROWS_UNLISTED),
+        Ending::RowsLacking => ExitCode::from(ROWS_LACKING),
         Ending::CommandLine(error) => report_parse(rt, error),
         Ending::NoText => {
             let _ = eprintln!(rt; "error: invalid UTF-8 was detected in one or more arguments");

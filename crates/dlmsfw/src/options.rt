@@ -2,22 +2,25 @@
 
 mod answer;
 mod cancel;
+mod give_up;
 mod head;
 mod keys;
 mod live;
 mod manual;
 mod meter;
+mod meters;
 mod name;
 mod rehearse;
 mod replay;
+mod serials;
 mod status;
 mod trace;
 
 use clap::error::ErrorKind;
 use clap::{ArgMatches, Command, Error};
 use fw_cli::{
-    AnswerOptions, CancelOptions, HeadOptions, KeysOptions, LiveOptions, MeterOptions, NameOptions,
-    RehearseOptions, ReplayOptions, StatusOptions, StoredOptions,
+    AnswerOptions, CancelOptions, GiveUpOptions, HeadOptions, KeysOptions, LiveOptions,
+    MeterOptions, NameOptions, RehearseOptions, ReplayOptions, StatusOptions, StoredOptions,
 };
 use fw_host::SealingOptions;
 use fw_sealport::Order;
@@ -35,12 +38,21 @@ pub(crate) enum Invocation<'a> {
     Rehearse(RehearseOptions<'a>, CaptureOption<'a>),
     Live(LiveOptions, CaptureOption<'a>),
     Meter(MeterOptions<'a>),
-    /// With the seconds from one line of progress to the next, if no terminal shows it.
-    Head(HeadOptions<'a>, u32),
+    Head(HeadOptions<'a>, HeadShown<'a>),
     Cancel(CancelOptions<'a>),
+    GiveUp(GiveUpOptions<'a>),
     Keys(KeysOptions<'a>),
     Status(StatusOptions<'a>),
     Trace(TraceOptions<'a>),
+}
+
+/// What is shown of a head end.
+#[derive(Clone, Copy)]
+pub(crate) struct HeadShown<'a> {
+    /// The seconds from one line of progress to the next, if no terminal shows it.
+    pub(crate) every: u32,
+    /// The campaigns that are cancelled first, as they were given.
+    pub(crate) cancel: Option<&'a str>,
 }
 
 /// Where the capture of a run goes.
@@ -59,8 +71,10 @@ enum WrongValue<'a> {
     OtherFamily { option: &'static str, text: &'a str },
     /// The value of this option is an address from which no meter gets a datagram.
     NotSeen { option: &'static str, text: &'a str },
-    /// The value of this option is no serial number.
-    NoSerial { option: &'static str, text: &'a str },
+    /// The value of this option names no campaigns.
+    NoCampaigns { option: &'static str, text: &'a str },
+    /// The value of this option names no meters.
+    NoMeters { option: &'static str, text: &'a str },
     /// Memory was refused.
     OutOfMemory,
 }
@@ -90,8 +104,11 @@ impl WrongValue<'_> {
             WrongValue::NotSeen { option, text } => format!(in alloc;
                 "invalid value '{text}' for '--{option} <ADDR:PORT>': no meter sees a datagram come from there; it is to be the address of one host with its port"
             ),
-            WrongValue::NoSerial { option, text } => format!(in alloc;
-                "invalid value '{text}' for '--{option} <SERIAL>': it is no number from 1 to 4294967295"
+            WrongValue::NoCampaigns { option, text } => format!(in alloc;
+                "invalid value '{text}' for '--{option} <SERIALS>': it is no list of serial numbers and ranges of them, as 7,9-12, each a number from 1 to 4294967295"
+            ),
+            WrongValue::NoMeters { option, text } => format!(in alloc;
+                "invalid value '{text}' for '--{option} <METERS>': it is no list of numbers and ranges of them, as 7,9-12, each a number from 0 to 4294967295"
             ),
             WrongValue::OutOfMemory => Err(AllocError),
         }
@@ -117,7 +134,8 @@ Exit status:
   0  the command did all its work
   1  a fault: standard error has `dlmsfw: NAME`
   2  a wrong command line: standard error says what is wrong
-  4  `head` alone: no row is live, and a row failed";
+  4  `head` alone: no row is live, and a row failed
+  5  `head`: some rows aren't in the list, and no other is live; `give-up`: a meter had no live row";
 
 /// The command that the words of a command line ask for.
 ///
@@ -142,8 +160,9 @@ fn found<'a>(
 ) -> Result<Option<Invocation<'a>>, WrongValue<'a>> {
     match matches.subcommand() {
         Some(("meter", given)) => meter::invoked(alloc, given),
-        Some(("head", given)) => head::invoked(given),
+        Some(("head", given)) => head::invoked(alloc, given),
         Some(("cancel", given)) => cancel::invoked(alloc, given),
+        Some(("give-up", given)) => give_up::invoked(alloc, given),
         Some(("keys", given)) => keys::invoked(given),
         Some((name, given)) => Ok(invoked(name, given)),
         None => Ok(None),
@@ -183,6 +202,7 @@ fn dlmsfw<'a>(alloc: Global) -> Result<Command<'a>, AllocError> {
     let program = with(program, meter::command(alloc))?;
     let program = with(program, head::command(alloc))?;
     let program = with(program, cancel::command(alloc))?;
+    let program = with(program, give_up::command(alloc))?;
     let program = with(program, keys::command(alloc))?;
     let program = with(program, status::command(alloc))?;
     with(program, trace::command(alloc))

@@ -1,68 +1,133 @@
--- Rounds of several meters, and who watches them.
-use Rattle.std.proofs.Common.{◌≡◌, ℕ, ◌<◌, List, [], ◌∷◌, ◌++◌, get_or, length, map, set, refl, sym, ap, subst, append_assoc, append-nil, ◌∙◌, arith}
-use Rattle.std.proofs.lemmas.List.{get_or-map, length-map, map-set}
-use Rattle.std.proofs.Math.Seq.{map-set_same}
-use Rattle.std.specs.Prelude.{Bool, Option}
+-- Turns of several meters, and who watches them.
+use Rattle.std.proofs.Common.{◌≡◌, ℕ, suc, ◌+◌, ◌<◌, ◌≤◌, List, [], ◌∷◌, ◌++◌, get_or, length, map, set, refl, sym, ap, subst, append_assoc, append-nil, ◌∙◌, arith}
+use Rattle.std.proofs.lemmas.List.{get_or-map, length-map, map-append, map-set}
+use Rattle.std.specs.Prelude.{Option, Some}
 use Rattle.fw_names.specs.Name.{Name}
 use Rattle.fw_daemon.specs.Daemon.{Daemon, daemon_of}
-use Rattle.fw_daemon.specs.Rounds.{GoesRound, TellsSwitches, named}
-use Rattle.fw_cli.specs.Fleets.{AllGo, AreWatched, daemons_of, switches_of}
+use Rattle.fw_daemon.specs.Rounds.{GoesRound, GoesRounds, named, switches_in}
+use Rattle.fw_cli.specs.Fleets.{AllGo, AreWatched, FleetTurn, HadPass, IsTold, OneIsWatched, daemons_of, most_rounds, places_below, switches_of}
+use Rattle.fw_cli.specs.Telling.{Switch, switches_by}
 use Rattle.fw_cli.specs.declared.fleet.Member.{Member}
 
 abbrev one_of : Member → Daemon
 one_of member = daemon_of member.daemon
 
-all_append : (start middle now : List Daemon) (xs ys : List (ℕ × Option Name)) → AllGo start xs middle → AllGo middle ys now → AllGo start (ys ++ xs) now
+abbrev place_of : FleetTurn → ℕ
+place_of turn = turn.0
+
+all_append : (start middle now : List Daemon) (xs ys : List FleetTurn) → AllGo start xs middle → AllGo middle ys now → AllGo start (ys ++ xs) now
 all_append start middle now xs [] first same = subst (λ (d : List Daemon). AllGo start xs d) (sym same) first
 all_append start middle now xs (y ∷ ys) first (before, all, one) = (before, all_append start middle before xs ys first all, one)
 
-switches_append : (xs ys : List (ℕ × Option Name)) → switches_of (ys ++ xs) ≡ switches_of xs ++ switches_of ys
+switches_append : (xs ys : List FleetTurn) → switches_of (ys ++ xs) ≡ switches_of xs ++ switches_of ys
 switches_append xs [] = sym (append-nil (switches_of xs))
-switches_append xs (y ∷ ys) = ap (λ (l : List Name). l ++ named y.1) (switches_append xs ys) ∙ append_assoc (switches_of xs) (switches_of ys) (named y.1)
+switches_append xs (y ∷ ys) =
+    let last = switches_by (Some (y.0 + 1)) (switches_in y.1) in
+    ap (λ (l : List Switch). l ++ last) (switches_append xs ys) ∙ append_assoc (switches_of xs) (switches_of ys) last
 
-module _ {W : Type 0} (tells : W → List Name → W → Type 0) where
-  pub fleet_none : (start : List Daemon) (w : W) → AreWatched tells start w start w
-  fleet_none start w = record {
+-- a meter made so many rounds of its turn, and who watches was told of just the switches in them
+pub record MadeRounds {W : Type 0} (tells : W → List Switch → W → Type 0) (number count : ℕ) (start : Daemon) (old : W) (now : Daemon) (new : W) : Type 0 where
+  pub rounds : List (Option Name)
+  pub made : GoesRounds start rounds now
+  pub counted : length rounds ≡ count
+  pub told : IsTold tells (switches_by (Some number) (switches_in rounds)) old new
+
+module _ {W : Type 0} (tells : W → List Switch → W → Type 0) where
+  -- ---- a turn
+
+  pub turn_begins : (number : ℕ) (start : Daemon) (w : W) → MadeRounds tells number 0 start w start w
+  turn_begins number start w = record {
     rounds = [];
     made = refl;
-    told = λ first before was. subst (λ (l : List Name). tells first l w) (sym (append-nil before)) was;
+    counted = refl;
+    told = λ first before was. subst (λ (l : List Switch). tells first l w) (sym (append-nil before)) was;
   }
+
+  -- the next round
+  pub turn_on : (number count : ℕ) (start middle now : Daemon) (old seen new : W) (activated : Option Name) → MadeRounds tells number count start old middle seen
+      → GoesRound middle activated now → IsTold tells (switches_by (Some number) (named activated)) seen new → MadeRounds tells number (count + 1) start old now new
+  turn_on number count start middle now old seen new activated was goes told =
+      let one : Name → Switch = λ name. (Some number, name) in
+      let first_ones = switches_by (Some number) (switches_in was.rounds) in
+      record {
+        rounds = activated ∷ was.rounds;
+        made = (middle, was.made, goes);
+        counted = let counted = was.counted in omega (arith, counted);
+        told = λ first before is.
+            subst (λ (l : List Switch). tells first l new)
+            (append_assoc before first_ones (switches_by (Some number) (named activated))
+            ∙ ap (λ (l : List Switch). before ++ l) (sym (map-append one (switches_in was.rounds) (named activated))))
+            (told first (before ++ first_ones) (was.told first before is));
+      }
+
+  -- nothing more is done
+  pub turn_ends : (number count : ℕ) (start middle now : Daemon) (old new : W) → MadeRounds tells number count start old middle new → now ≡ middle → count ≤ most_rounds
+      → OneIsWatched tells number start old now new
+  turn_ends number count start middle now old new was same most = record {
+    rounds = was.rounds;
+    made = subst (λ (d : Daemon). GoesRounds start was.rounds d) (sym same) was.made;
+    few = let counted = was.counted in omega (arith, counted, most);
+    told = was.told;
+  }
+
+  -- ---- a pass
+
+  pub pass_begins : (start : List Daemon) (w : W) → HadPass tells 0 start w start w
+  pass_begins start w = record {
+    turns = [];
+    made = refl;
+    each = refl;
+    told = λ first before was. subst (λ (l : List Switch). tells first l w) (sym (append-nil before)) was;
+  }
+
+  -- the next meter had its turn
+  pub pass_on : (start : List Daemon) (old seen new : W) (rows : List Member) (place number : ℕ) (default stepped : Member) → place < length rows → number ≡ place + 1
+      → HadPass tells place start old (daemons_of rows) seen
+      → OneIsWatched tells number (daemon_of (get_or rows place default).daemon) seen (daemon_of stepped.daemon) new
+      → HadPass tells (place + 1) start old (daemons_of (set rows place stepped)) new
+  pass_on start old seen new rows place number default stepped within is was one =
+      let next : place + 1 ≡ suc place = omega arith in
+      let last = switches_by (Some (place + 1)) (switches_in one.rounds) in
+      record {
+        turns = (place, one.rounds) ∷ was.turns;
+        made = (
+          daemons_of rows,
+          was.made,
+          record {
+            before = one_of (get_or rows place default);
+            after = one_of stepped;
+            within = omega (arith, within, length-map rows one_of);
+            there = get_or-map one_of rows place default (one_of (get_or rows place default)) within;
+            goes = one.made;
+            few = one.few;
+            others = map-set one_of rows place stepped;
+          },
+        );
+        each = subst (λ (n : ℕ). place ∷ map place_of was.turns ≡ places_below n) (sym next) (ap (λ (l : List ℕ). place ∷ l) was.each);
+        told = λ first before told.
+            subst (λ (l : List Switch). tells first l new) (append_assoc before (switches_of was.turns) last)
+            (subst (λ (n : ℕ). IsTold tells (switches_by (Some n) (switches_in one.rounds)) seen new) is one.told first (before ++ switches_of was.turns)
+            (was.told first before told));
+      }
+
+  -- it is over
+  pub pass_ends : (count all : ℕ) (start now : List Daemon) (old new : W) → HadPass tells count start old now new → count ≡ all → HadPass tells all start old now new
+  pass_ends count all start now old new was same = subst (λ (n : ℕ). HadPass tells n start old now new) same was
+
+  -- ---- turns
+
+  pub turns_of : (count : ℕ) (start now : List Daemon) (old new : W) → HadPass tells count start old now new → AreWatched tells start old now new
+  turns_of count start now old new was = record { turns = was.turns; made = was.made; told = was.told }
+
+  pub fleet_none : (start : List Daemon) (w : W) → AreWatched tells start w start w
+  fleet_none start w = turns_of 0 start start w w (pass_begins start w)
 
   pub fleet_then : (start middle now : List Daemon) (old seen new : W) → AreWatched tells start old middle seen → AreWatched tells middle seen now new → AreWatched tells start old now new
   fleet_then start middle now old seen new one two = record {
-    rounds = two.rounds ++ one.rounds;
-    made = all_append start middle now one.rounds two.rounds one.made two.made;
+    turns = two.turns ++ one.turns;
+    made = all_append start middle now one.turns two.turns one.made two.made;
     told = λ first before was.
-        subst (λ (l : List Name). tells first l new)
-        (append_assoc before (switches_of one.rounds) (switches_of two.rounds) ∙ ap (λ (l : List Name). before ++ l) (sym (switches_append one.rounds two.rounds)))
-        (two.told first (before ++ switches_of one.rounds) (one.told first before was));
+        subst (λ (l : List Switch). tells first l new)
+        (append_assoc before (switches_of one.turns) (switches_of two.turns) ∙ ap (λ (l : List Switch). before ++ l) (sym (switches_append one.turns two.turns)))
+        (two.told first (before ++ switches_of one.turns) (one.told first before was));
   }
-
-  -- the next meter makes a round
-  pub fleet_on : (start : List Daemon) (old seen new : W) (rows : List Member) (i : ℕ) (default stepped : Member) (activated : Option Name) → i < length rows
-      → AreWatched tells start old (daemons_of rows) seen → GoesRound (daemon_of (get_or rows i default).daemon) activated (daemon_of stepped.daemon)
-      → TellsSwitches tells (named activated) seen new → AreWatched tells start old (daemons_of (set rows i stepped)) new
-  fleet_on start old seen new rows i default stepped activated within was goes told = record {
-    rounds = (i, activated) ∷ was.rounds;
-    made = (
-      daemons_of rows,
-      was.made,
-      record {
-        before = one_of (get_or rows i default);
-        after = one_of stepped;
-        within = omega (arith, within, length-map rows one_of);
-        there = get_or-map one_of rows i default (one_of (get_or rows i default)) within;
-        goes = goes;
-        others = map-set one_of rows i stepped;
-      },
-    );
-    told = λ first before is.
-        subst (λ (l : List Name). tells first l new) (append_assoc before (switches_of was.rounds) (named activated))
-        (told first (before ++ switches_of was.rounds) (was.told first before is));
-  }
-
-  -- it doesn't
-  pub fleet_rests : (start : List Daemon) (old new : W) (rows : List Member) (i : ℕ) (default stepped : Member) → AreWatched tells start old (daemons_of rows) new
-      → daemon_of stepped.daemon ≡ daemon_of (get_or rows i default).daemon → AreWatched tells start old (daemons_of (set rows i stepped)) new
-  fleet_rests start old new rows i default stepped was same =
-      subst (λ (d : List Daemon). AreWatched tells start old d new) (sym (map-set_same one_of rows i stepped default same)) was

@@ -1,31 +1,25 @@
 -- Which faults of the command `head` come when, and which options they need.
-use Rattle.std.proofs.Common.{◌≡◌, ℕ, ◌≤◌, List, Bool, true, false, Option, Some, None, Result, Ok, Err, IfErr, All, inl, inr, refl, sym, subst, ap}
-use Rattle.std.specs.Prelude.{IsTrue, OnOk, is_some, ◌⊎◌}
+use Rattle.std.proofs.Common.{◌≡◌, ℕ, List, [], Bool, true, false, Option, Some, None, Result, Ok, Err, IfErr, Contains, inl, inr, refl, sym, subst, ap}
+use Rattle.std.specs.Prelude.{IsTrue, is_some, ◌⊎◌, ◌≢◌}
+use Rattle.std.proofs.lemmas.List.Elements.{All-contains, All-nil}
+use Rattle.fw_book.specs.Contents.{Contents}
 use Rattle.fw_book.specs.declared.error.BookError.{BookError}
 use Rattle.fw_disk.specs.declared.reason.Because.{Because}
+use Rattle.fw_plan.specs.Ranges.{serials_of}
+use Rattle.fw_plan.specs.declared.part.Part.{Part}
+use Rattle.fw_plan.specs.declared.ranges.SerialRange.{SerialRange}
 use Rattle.fw_rollout.specs.declared.error.Stop.{Stop}
 use Rattle.fw_rollout.specs.declared.error.Stop.TheVariants as stop
 use Rattle.fw_faults.specs.declared.fault.Fault.{Fault}
 use Rattle.fw_faults.specs.declared.fault.Fault.TheVariants as fault
-use Rattle.fw_cli.specs.declared.head.HeadOptions.{HeadOptions}
 use Rattle.fw_faults.specs.Faults.{fault_of_stop}
 use Rattle.fw_host.specs.Captures.{IsOfCapture}
 use Rattle.fw_host.specs.declared.sealing.SealingOptions.{SealingOptions}
-use Rattle.fw_host.specs.Heads.{ComesBeforeLines, IsCancelFault, IsOfBook, IsOfHead, IsOfHeadSetup, IsOfLeading, IsOfNewBook, IsOfOldBook, IsOpenFault}
+use Rattle.fw_host.specs.Heads.{ComesBeforeLines, IsCancelFault, IsOfBook, IsOfHead, IsOfHeadSetup, IsOfNewBook, IsOfOldBook, IsOpenFault}
+use Rattle.fw_host.specs.Openings.{CancelsRefused, PartsRefused, RefusesOne, RefusesOneCancel}
 use Rattle.fw_cli.specs.Faults.{IsKeyed}
-use Rattle.fw_cli.specs.Heads.{IsAskedFor, IsOfCancelling, IsOfList, IsOfOpening, IsOfOpeningSetup, IsOfStop}
-use Rattle.fw_book.specs.Changes.{cancel_refusal}
-use Rattle.fw_book.specs.Contents.{Contents}
-use Rattle.fw_host.specs.declared.head_opening.part.Part.{Part}
-use Rattle.std.specs.Map.{values_of}
-use Rattle.std.proofs.lemmas.List.Elements.{All-nil}
-use Rattle.fw_head.specs.Head.{Head, new_head}
-use Rattle.fw_rollout.specs.declared.link.Listed.{Listed}
-use Rattle.fw_host.specs.Addresses.{HasAddress}
-use Rattle.fw_host.specs.Openings.{IsTakenBy, PartsRefused, RefusesOne, campaign_in}
-use Rattle.fw_cli.specs.Judging.{IsAdmitted, IsJudged, IsOpenable}
-use Rattle.fw_cli.specs.declared.head.Asked.{Asked}
-use Rattle.fw_cli.specs.declared.head.Opened.{Opened}
+use Rattle.fw_cli.specs.Heads.{IsAskedFor, IsOfBeginning, IsOfCancelling, IsOfJudging, IsOfList, IsOfOpened, IsOfOpening, IsOfOpeningSetup, IsOfStop}
+use Rattle.fw_cli.specs.declared.head.HeadOptions.{HeadOptions}
 
 -- ---- the book
 
@@ -35,7 +29,6 @@ old_in_setup (fault.BadList line) is = tt
 old_in_setup fault.ImageFault is = tt
 old_in_setup fault.BadSetup is = tt
 old_in_setup fault.Socket is = tt
-old_in_setup (fault.NoAddress meter) is = tt
 old_in_setup (fault.OpenRefused refusal) is = tt
 old_in_setup fault.BookExists is = tt
 old_in_setup (fault.CancelRefused refusal) is = tt
@@ -99,33 +92,28 @@ pub record IsLater (options : HeadOptions) (f : Fault) : Type 0 where
   pub asked : IsAskedFor options f
   pub later : ¬ ComesBeforeLines f
 
-pub cancelling : (options : HeadOptions) (f : Fault) → IsTrue (is_some options.cancel) → IsOfCancelling f → IsLater options f
-cancelling options (fault.CancelRefused refusal) e is = record { of_head = tt; asked = e; later = λ h. h }
-cancelling options fault.BookFault e is = record { of_head = tt; asked = tt; later = λ h. h }
-cancelling options fault.Full e is = record { of_head = tt; asked = tt; later = λ h. h }
-cancelling options fault.OutOfMemory e is = record { of_head = tt; asked = tt; later = λ h. h }
-cancelling options f e is = absurd is
+pub beginning : {X Y : Type 0} (options : HeadOptions) (cancels : List Y) (opened : Option X) (f : Fault) → (cancels ≢ [] → options.cancel.items ≢ [])
+    → (IsTrue (is_some opened) → IsTrue (is_some options.opening)) → IsOfBeginning cancels opened f → IsLater options f
+beginning {X} {Y} options cancels opened (fault.CancelRefused refusal) named asked is = record { of_head = tt; asked = named is; later = λ h. h }
+beginning {X} {Y} options cancels opened (fault.OpenRefused refusal) named asked is = record { of_head = tt; asked = asked is; later = λ h. h }
+beginning {X} {Y} options cancels opened fault.BookFault named asked is = record { of_head = tt; asked = tt; later = λ h. h }
+beginning {X} {Y} options cancels opened fault.Full named asked is = record { of_head = tt; asked = tt; later = λ h. h }
+beginning {X} {Y} options cancels opened fault.OutOfMemory named asked is = record { of_head = tt; asked = tt; later = λ h. h }
+beginning {X} {Y} options cancels opened f named asked is = absurd is
 
-pub opening : (options : HeadOptions) (f : Fault) → IsTrue (is_some options.opening) → IsOfOpening f → IsLater options f
-opening options (fault.OpenRefused refusal) e is = record { of_head = tt; asked = e; later = λ h. h }
-opening options fault.BookFault e is = record { of_head = tt; asked = tt; later = λ h. h }
-opening options fault.Full e is = record { of_head = tt; asked = tt; later = λ h. h }
-opening options fault.OutOfMemory e is = record { of_head = tt; asked = tt; later = λ h. h }
-opening options f e is = absurd is
+pub cancelling : {X Y : Type 0} (cancels : List Y) (opened : Option X) (f : Fault) → cancels ≢ [] → IsOfCancelling f → IsOfBeginning cancels opened f
+cancelling {X} {Y} cancels opened (fault.CancelRefused refusal) some is = some
+cancelling {X} {Y} cancels opened fault.BookFault some is = tt
+cancelling {X} {Y} cancels opened fault.Full some is = tt
+cancelling {X} {Y} cancels opened fault.OutOfMemory some is = tt
+cancelling {X} {Y} cancels opened f some is = absurd is
 
-pub is_cancelling : (f : Fault) → IsOfCancelling f → IsOfLeading f
-is_cancelling (fault.CancelRefused refusal) is = (tt, λ h. h)
-is_cancelling fault.BookFault is = (tt, λ h. h)
-is_cancelling fault.Full is = (tt, λ h. h)
-is_cancelling fault.OutOfMemory is = (tt, λ h. h)
-is_cancelling f is = absurd is
-
-pub is_opening : (f : Fault) → IsOfOpening f → IsOfLeading f
-is_opening (fault.OpenRefused refusal) is = (tt, λ h. h)
-is_opening fault.BookFault is = (tt, λ h. h)
-is_opening fault.Full is = (tt, λ h. h)
-is_opening fault.OutOfMemory is = (tt, λ h. h)
-is_opening f is = absurd is
+pub opening : {X Y : Type 0} (cancels : List Y) (opened : Option X) (f : Fault) → IsTrue (is_some opened) → IsOfOpening f → IsOfBeginning cancels opened f
+opening {X} {Y} cancels opened (fault.OpenRefused refusal) some is = some
+opening {X} {Y} cancels opened fault.BookFault some is = tt
+opening {X} {Y} cancels opened fault.Full some is = tt
+opening {X} {Y} cancels opened fault.OutOfMemory some is = tt
+opening {X} {Y} cancels opened f some is = absurd is
 
 pub line_lost : (options : HeadOptions) (f : Fault) → ((f ≡ fault.Output) ⊎ (f ≡ fault.OutOfMemory)) → IsLater options f
 line_lost options f (inl output) = subst (IsLater options) (sym output) (record { of_head = tt; asked = tt; later = λ h. h })
@@ -184,12 +172,6 @@ open_fault refusal f is = absurd is
 
 -- ---- what comes before the first line
 
-pub parts_fault : (serial : ℕ) (meters : List ℕ) (f : Fault) → PartsRefused serial meters f → IsOfOpeningSetup f
-parts_fault serial meters fault.BadSetup is = tt
-parts_fault serial meters (fault.OpenRefused refusal) is = tt
-parts_fault serial meters fault.OutOfMemory is = tt
-parts_fault serial meters f is = absurd is
-
 pub list_in_setup : (f : Fault) → IsOfList f → IsOfHeadSetup f
 list_in_setup fault.ListFault is = tt
 list_in_setup (fault.BadList line) is = tt
@@ -204,25 +186,15 @@ list_is_asked options f is = absurd is
 
 pub opening_in_setup : (f : Fault) → IsOfOpeningSetup f → IsOfHeadSetup f
 opening_in_setup fault.ImageFault is = tt
-opening_in_setup fault.BadSetup is = tt
 opening_in_setup (fault.OpenRefused refusal) is = tt
 opening_in_setup fault.OutOfMemory is = tt
 opening_in_setup f is = absurd is
 
 pub opening_is_asked : (options : HeadOptions) (f : Fault) → IsTrue (is_some options.opening) → IsOfOpeningSetup f → IsAskedFor options f
 opening_is_asked options fault.ImageFault e is = e
-opening_is_asked options fault.BadSetup e is = e
 opening_is_asked options (fault.OpenRefused refusal) e is = e
 opening_is_asked options fault.OutOfMemory e is = tt
 opening_is_asked options f e is = absurd is
-
-pub address_in_setup : (f : Fault) → (f ≡ fault.OutOfMemory) ⊎ ((number : ℕ) × (f ≡ fault.NoAddress number)) → IsOfHeadSetup f
-address_in_setup f (inl e) = subst IsOfHeadSetup (sym e) tt
-address_in_setup f (inr (number, e)) = subst IsOfHeadSetup (sym e) tt
-
-pub address_is_asked : (options : HeadOptions) (f : Fault) → (f ≡ fault.OutOfMemory) ⊎ ((number : ℕ) × (f ≡ fault.NoAddress number)) → IsAskedFor options f
-address_is_asked options f (inl e) = subst (IsAskedFor options) (sym e) tt
-address_is_asked options f (inr (number, e)) = subst (IsAskedFor options) (sym e) tt
 
 -- ---- what is judged before a file is made
 
@@ -234,46 +206,52 @@ pub absent_is_asked : (options : HeadOptions) (f : Fault) → IsTrue options.boo
 absent_is_asked options f new (inl e) = subst (IsAskedFor options) (sym e) new
 absent_is_asked options f new (inr e) = subst (IsAskedFor options) (sym e) tt
 
--- a cancelling was refused
-abbrev pub IsRefusedCancel : Contents → ℕ → Fault → Type 0
-IsRefusedCancel book serial f =
-    (e : BookError) × (f ≡ fault.CancelRefused e) × (1 ≤ serial → cancel_refusal book (campaign_in book serial) ≡ Some e)
+pub judging_in_setup : {X Y : Type 0} (named : List Y) (opened : Option X) (f : Fault) → IsOfJudging named opened f → IsOfHeadSetup f
+judging_in_setup {X} {Y} named opened (fault.CancelRefused refusal) is = tt
+judging_in_setup {X} {Y} named opened fault.BadSetup is = tt
+judging_in_setup {X} {Y} named opened (fault.OpenRefused refusal) is = tt
+judging_in_setup {X} {Y} named opened fault.OutOfMemory is = tt
+judging_in_setup {X} {Y} named opened f is = absurd is
 
-pub cancel_in_setup : (book : Contents) (serial : ℕ) (f : Fault) → IsRefusedCancel book serial f → IsOfHeadSetup f
-cancel_in_setup book serial f (e, is, why) = subst IsOfHeadSetup (sym is) tt
+pub judging_is_asked : {X : Type 0} (options : HeadOptions) (opened : Option X) (f : Fault) → (IsTrue (is_some opened) → IsTrue (is_some options.opening))
+    → IsOfJudging options.cancel.items opened f → IsAskedFor options f
+judging_is_asked {X} options opened (fault.CancelRefused refusal) asked is = is
+judging_is_asked {X} options opened fault.BadSetup asked is = asked is
+judging_is_asked {X} options opened (fault.OpenRefused refusal) asked is = asked is
+judging_is_asked {X} options opened fault.OutOfMemory asked is = tt
+judging_is_asked {X} options opened f asked is = absurd is
 
-pub cancel_is_asked : (options : HeadOptions) (serial : ℕ) (book : Contents) (f : Fault) → options.cancel ≡ Some serial
-    → IsRefusedCancel book serial f → IsAskedFor options f
-cancel_is_asked options serial book f asked (e, is, why) =
-    subst (IsAskedFor options) (sym is) (subst (λ (o : Option ℕ). IsTrue (is_some o)) (sym asked) refl)
+-- nothing stands in an empty list
+contains_none : (n : ℕ) → Contains [] n → ⊥
+contains_none n there = All-contains (λ (m : ℕ). ⊥) [] n (All-nil (λ (m : ℕ). ⊥)) there
 
-pub judged_cancel : (book : Contents) (options : HeadOptions) (asked : Asked) (serial : ℕ) (r : Result (Unit {0}) Fault) → options.cancel ≡ Some serial
-    → OnOk r (cancel_refusal book (campaign_in book serial) ≡ None) → OnOk r (IsJudged book options asked)
-judged_cancel book options asked serial r e ok = subst (λ (o : Option ℕ). OnOk r (IsAdmitted book o asked.opened)) (sym e) ok
+-- what is refused to be cancelled was named
+refused_is_named : (book : Contents) (named : List SerialRange) (f : Fault) → RefusesOneCancel book (serials_of book named) f → named ≢ []
+refused_is_named book named f one none = contains_none one.serial (subst (λ (l : List SerialRange). Contains (serials_of book l) one.serial) none one.within)
 
-pub judged_parts : (book : Contents) (options : HeadOptions) (asked : Asked) (opened : Opened) (r : Result (Unit {0}) Fault) → options.cancel ≡ None
-    → asked.opened ≡ Some opened → OnOk r (All (IsTakenBy book opened.release opened.image.items) opened.parts.items) → OnOk r (IsJudged book options asked)
-judged_parts book options asked opened r none some ok =
-    subst (λ (o : Option ℕ). OnOk r (IsAdmitted book o asked.opened)) (sym none)
-    (subst (λ (o : Option Opened). OnOk r (IsOpenable book o)) (sym some) ok)
+cancel_is_judged : {X : Type 0} (book : Contents) (named : List SerialRange) (opened : Option X) (f : Fault) → RefusesOneCancel book (serials_of book named) f
+    → IsOfJudging named opened f
+cancel_is_judged {X} book named opened f one =
+    let (e, is, why) = one.refused in subst (IsOfJudging named opened) (sym is) (refused_is_named book named f one)
 
-pub judged_none : (book : Contents) (options : HeadOptions) (asked : Asked) → options.cancel ≡ None → asked.opened ≡ None → IsJudged book options asked
-judged_none book options asked none empty =
-    subst (λ (o : Option ℕ). IsAdmitted book o asked.opened) (sym none) (subst (λ (o : Option Opened). IsOpenable book o) (sym empty) tt)
+pub cancels_are_judged : {X : Type 0} (book : Contents) (named : List SerialRange) (opened : Option X) (f : Fault) → CancelsRefused book (serials_of book named) f
+    → IsOfJudging named opened f
+cancels_are_judged {X} book named opened fault.OutOfMemory is = tt
+cancels_are_judged {X} book named opened f is = cancel_is_judged book named opened f is
 
--- a new head end has no rows
-pub no_rows : (cancelled : Option ℕ) (list : List Listed) (number width : ℕ) (h : Head) → h ≡ new_head number width → All (HasAddress cancelled list) (values_of h.rows)
-no_rows cancelled list number width h new = subst (λ (x : Head). All (HasAddress cancelled list) (values_of x.rows)) (sym new) (All-nil (HasAddress cancelled list))
+pub opened_is_judged : {X Y : Type 0} (named : List Y) (opened : Option X) (f : Fault) → IsOfOpened opened f → IsOfJudging named opened f
+opened_is_judged {X} {Y} named opened (fault.CancelRefused refusal) is = absurd is
+opened_is_judged {X} {Y} named opened f is = is
 
-pub parts_in_setup : (book : Contents) (image : List ℕ) (parts : List Part) (f : Fault) → RefusesOne book image parts f → IsOfHeadSetup f
-parts_in_setup book image parts f refuses = let (e, is, why) = refuses.refused in subst IsOfHeadSetup (sym is) tt
+pub parts_are_opened : {X : Type 0} (opened : Option X) (book : Contents) (serial : ℕ) (meters : List ℕ) (f : Fault) → IsTrue (is_some opened)
+    → PartsRefused book serial meters f → IsOfOpened opened f
+parts_are_opened {X} opened book serial meters fault.BadSetup some is = some
+parts_are_opened {X} opened book serial meters fault.OutOfMemory some is = tt
+parts_are_opened {X} opened book serial meters f some is = absurd is
 
-pub parts_are_asked : (options : HeadOptions) (book : Contents) (image : List ℕ) (parts : List Part) (f : Fault) → IsTrue (is_some options.opening)
-    → RefusesOne book image parts f → IsAskedFor options f
-parts_are_asked options book image parts f opened refuses = let (e, is, why) = refuses.refused in subst (IsAskedFor options) (sym is) opened
-
-pub parts_are_opening : (book : Contents) (image : List ℕ) (parts : List Part) (f : Fault) → RefusesOne book image parts f → IsOfOpening f
-parts_are_opening book image parts f refuses = let (e, is, why) = refuses.refused in subst IsOfOpening (sym is) tt
+pub refused_is_opened : {X : Type 0} (opened : Option X) (book : Contents) (image : List ℕ) (parts : List Part) (f : Fault) → IsTrue (is_some opened)
+    → RefusesOne book image parts f → IsOfOpened opened f
+refused_is_opened {X} opened book image parts f some one = let (e, is, why) = one.refused in subst (IsOfOpened opened) (sym is) some
 
 -- what is said of a fault is said of the one that is passed on
 pub passed_on : {A : Type 0} (r : Result A Fault) (P : Fault → Type 0) (e f : Fault) → r ≡ Err e → e ≡ f → P f → IfErr r P

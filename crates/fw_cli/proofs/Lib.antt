@@ -10,6 +10,7 @@ pub mod Turns
 pub mod HeadLeading
 pub mod Begun
 pub mod Cancels
+pub mod GivenUp
 pub mod Captured
 pub mod Sayings
 pub mod Fleeting

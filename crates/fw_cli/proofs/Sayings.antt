@@ -2,65 +2,79 @@
 use Rattle.std.proofs.Common.{◌≡◌, ℕ, Bool, true, false, List, [], ◌∷◌, ◌++◌, map, refl, sym, ap, subst, append-nil, ◌∙◌}
 use Rattle.std.proofs.lemmas.List.{map-append}
 use Rattle.std.specs.Prelude.{Option, Some, None}
-use Rattle.fw_names.specs.Name.{Campaign, Name}
+use Rattle.fw_names.specs.Name.{Campaign, Name, name_of}
 use Rattle.fw_daemon.specs.Rounds.{named}
 use Rattle.fw_daemon.specs.declared.daemon.Dropped.{Dropped}
-use Rattle.fw_head.specs.Head.{Head, campaign_at, cancelled_head}
+use Rattle.fw_head.specs.Head.{Head, campaign_at, cancelled_head, opened_head}
 use Rattle.fw_rollout.specs.Counting.{CountsRows}
 use Rattle.fw_rollout.specs.declared.daemon.Counts.{Counts}
 use Rattle.fw_rollout.specs.declared.ended.Ended.{Ended}
+use Rattle.fw_plan.specs.declared.part.Part.{Part}
 use Rattle.fw_host.specs.Heads.{cancelled_line, opened_line}
-use Rattle.fw_host.specs.Openings.{OpensPart}
 use Rattle.fw_host.specs.Telling.{Told, lines_of_rows}
-use Rattle.fw_host.specs.declared.head_opening.part.Part.{Part}
 use Rattle.fw_host.proofs.Tellings.{told_none, told_on}
-use Rattle.fw_cli.specs.Telling.{Change, ChangesAll, ChangesOne, IsSaid, Said, TellsChanges, TellsEnded, cancels, lacked, lack_of, line_of, lines_of, names_in, opens, said_of, switched}
+use Rattle.fw_cli.specs.Telling.{Change, ChangesAll, ChangesOne, IsSaid, Said, Switch, TellsChanges, TellsEnded, cancels, lacked, lack_of, line_of, lines_of, opens, said_of, switched, switches_by, switches_said}
 
 -- ---- of meters
 
-names_append : (xs ys : List Said) → names_in (xs ++ ys) ≡ names_in xs ++ names_in ys
-names_append [] ys = refl
-names_append (switched name ∷ xs) ys = ap (λ (l : List Name). name ∷ l) (names_append xs ys)
-names_append (lacked dropped faults unopened ∷ xs) ys = names_append xs ys
+said_append : (xs ys : List Said) → switches_said (xs ++ ys) ≡ switches_said xs ++ switches_said ys
+said_append [] ys = refl
+said_append (switched one ∷ xs) ys = ap (λ (l : List Switch). one ∷ l) (said_append xs ys)
+said_append (lacked dropped faults unopened ∷ xs) ys = said_append xs ys
 
-names_of_round : (activated : Option Name) → names_in (said_of activated) ≡ named activated
-names_of_round None = refl
-names_of_round (Some name) = refl
+said_in_round : (number : Option ℕ) (activated : Option Name) → switches_said (said_of number activated) ≡ switches_by number (named activated)
+said_in_round number None = refl
+said_in_round number (Some name) = refl
 
-names_of_lack : (says : Bool) (dropped : Dropped) (faults unopened : ℕ) → names_in (lack_of says dropped faults unopened) ≡ []
-names_of_lack true dropped faults unopened = refl
-names_of_lack false dropped faults unopened = refl
+said_in_lack : (says : Bool) (dropped : Dropped) (faults unopened : ℕ) → switches_said (lack_of says dropped faults unopened) ≡ []
+said_in_lack true dropped faults unopened = refl
+said_in_lack false dropped faults unopened = refl
+
+-- the switches of one meter, and then others
+switches_more : (number : Option ℕ) (names more : List Name) → switches_by number (names ++ more) ≡ switches_by number names ++ switches_by number more
+switches_more number names more = let one : Name → Switch = λ name. (number, name) in map-append one names more
 
 lines_append : (xs ys : List Said) → lines_of (xs ++ ys) ≡ lines_of xs ++ lines_of ys
 lines_append xs ys = map-append (λ (one : Said). line_of one) xs ys
 
 pub said_none : (was : Bool) (a : Option (List ℕ)) → IsSaid [] was was a a
-said_none was a = record { said = []; names_are = refl; told = told_none was a }
+said_none was a = record { said = []; are = refl; told = told_none was a }
 
 -- of a round without a switch nothing is told
-pub switch_none : (activated : Option Name) (was : Bool) (a : Option (List ℕ)) → activated ≡ None → Told (lines_of (said_of activated)) was was a a
-switch_none activated was a none = subst (λ (o : Option Name). Told (lines_of (said_of o)) was was a a) (sym none) (told_none was a)
+pub switch_none : (number : Option ℕ) (activated : Option Name) (was : Bool) (a : Option (List ℕ)) → activated ≡ None
+    → Told (lines_of (said_of number activated)) was was a a
+switch_none number activated was a none = subst (λ (o : Option Name). Told (lines_of (said_of number o)) was was a a) (sym none) (told_none was a)
 
-said_more : (names more : List Name) (said next : List Said) (p q r : Bool) (a b c : Option (List ℕ)) → names_in said ≡ names → names_in next ≡ more
-    → Told (lines_of said) p q a b → Told (lines_of next) q r b c → IsSaid (names ++ more) p r a c
-said_more names more said next p q r a b c are those first second = record {
+said_more : (switches more : List Switch) (said next : List Said) (p q r : Bool) (a b c : Option (List ℕ)) → switches_said said ≡ switches → switches_said next ≡ more
+    → Told (lines_of said) p q a b → Told (lines_of next) q r b c → IsSaid (switches ++ more) p r a c
+said_more switches more said next p q r a b c are those first second = record {
   said = said ++ next;
-  names_are = names_append said next ∙ ap (λ (l : List Name). l ++ names_in next) are ∙ ap (λ (l : List Name). names ++ l) those;
+  are = said_append said next ∙ ap (λ (l : List Switch). l ++ switches_said next) are ∙ ap (λ (l : List Switch). switches ++ l) those;
   told = subst (λ (l : List (List ℕ)). Told l p r a c) (sym (lines_append said next)) (told_on (lines_of said) (lines_of next) p q r a b c first second);
 }
 
 -- a round is told
-pub said_round : (names : List Name) (activated : Option Name) (says : Bool) (dropped : Dropped) (faults unopened : ℕ) (p q r s : Bool) (a b c d : Option (List ℕ)) → IsSaid names p q a b
-    → Told (lines_of (said_of activated)) q r b c → Told (lines_of (lack_of says dropped faults unopened)) r s c d → IsSaid (names ++ named activated) p s a d
-said_round names activated says dropped faults unopened p q r s a b c d was switch lack =
-    let next = said_of activated ++ lack_of says dropped faults unopened in
-    let those : names_in next ≡ named activated =
-    names_append (said_of activated) (lack_of says dropped faults unopened) ∙ ap (λ (l : List Name). l ++ names_in (lack_of says dropped faults unopened)) (names_of_round activated)
-    ∙ ap (λ (l : List Name). named activated ++ l) (names_of_lack says dropped faults unopened) ∙ append-nil (named activated) in
-    let told : Told (lines_of next) q s b d =
-    subst (λ (l : List (List ℕ)). Told l q s b d) (sym (lines_append (said_of activated) (lack_of says dropped faults unopened)))
-    (told_on (lines_of (said_of activated)) (lines_of (lack_of says dropped faults unopened)) q r s b c d switch lack) in
-    said_more names (named activated) was.said next p q s a b d was.names_are those was.told told
+pub said_round : (switches : List Switch) (number : Option ℕ) (activated : Option Name) (says : Bool) (dropped : Dropped) (faults unopened : ℕ) (p q r s : Bool) (a b c d : Option (List ℕ))
+    → IsSaid switches p q a b → Told (lines_of (said_of number activated)) q r b c → Told (lines_of (lack_of says dropped faults unopened)) r s c d
+    → IsSaid (switches ++ switches_by number (named activated)) p s a d
+said_round switches number activated says dropped faults unopened p q r s a b c d was switch lack =
+    let first = said_of number activated in
+    let last = lack_of says dropped faults unopened in
+    let more = switches_by number (named activated) in
+    let those : switches_said (first ++ last) ≡ more =
+    said_append first last ∙ ap (λ (l : List Switch). l ++ switches_said last) (said_in_round number activated)
+    ∙ ap (λ (l : List Switch). more ++ l) (said_in_lack says dropped faults unopened) ∙ append-nil more in
+    let told : Told (lines_of (first ++ last)) q s b d =
+    subst (λ (l : List (List ℕ)). Told l q s b d) (sym (lines_append first last)) (told_on (lines_of first) (lines_of last) q r s b c d switch lack) in
+    said_more switches more was.said (first ++ last) p q s a b d was.are those was.told told
+
+-- a round of a meter that is alone
+pub said_alone : (names : List Name) (activated : Option Name) (says : Bool) (dropped : Dropped) (faults unopened : ℕ) (p q r s : Bool) (a b c d : Option (List ℕ))
+    → IsSaid (switches_by None names) p q a b → Told (lines_of (said_of None activated)) q r b c → Told (lines_of (lack_of says dropped faults unopened)) r s c d
+    → IsSaid (switches_by None (names ++ named activated)) p s a d
+said_alone names activated says dropped faults unopened p q r s a b c d was switch lack =
+    subst (λ (l : List Switch). IsSaid l p s a d) (sym (switches_more None names (named activated)))
+    (said_round (switches_by None names) None activated says dropped faults unopened p q r s a b c d was switch lack)
 
 -- ---- of head ends
 
@@ -88,18 +102,12 @@ pub changes_cancelled : (serial : ℕ) (campaign : Campaign) (old new : Head) (p
 changes_cancelled serial campaign old new p q a b made is told =
     changes_one old new (cancels serial) (cancelled_line campaign) p q a b (made, ap (λ (it : Campaign). cancelled_line it) is) told
 
--- what is opened is told of, and what is passed over isn't
-pub changes_opened : (release : ℕ) (image : List ℕ) (part : Part) (opened : Option Name) (name : Name) (old new : Head) (p q : Bool) (a b : Option (List ℕ)) → opened ≡ Some name
-    → OpensPart release image part old opened new → Told (opened_line name ∷ []) p q a b → TellsChanges old new p q a b
-changes_opened release image part opened name old new p q a b some opens_it told =
-    let (_, is, made) = subst (λ (o : Option Name). OpensPart release image part old o new) some opens_it in
+-- what is opened is told of
+pub changes_opened : (release : ℕ) (image : List ℕ) (part : Part) (name : Name) (old new : Head) (p q : Bool) (a b : Option (List ℕ))
+    → new ≡ opened_head old part.serial release image part.meters.items → name ≡ name_of (campaign_at old part.serial) release image
+    → Told (opened_line name ∷ []) p q a b → TellsChanges old new p q a b
+changes_opened release image part name old new p q a b made is told =
     changes_one old new (opens part.serial release image part.meters.items) (opened_line name) p q a b (made, ap (λ (it : Name). opened_line it) is) told
-
-pub changes_passed : (release : ℕ) (image : List ℕ) (part : Part) (opened : Option Name) (old new : Head) (p : Bool) (a : Option (List ℕ)) → opened ≡ None
-    → OpensPart release image part old opened new → TellsChanges old new p p a a
-changes_passed release image part opened old new p a none passes =
-    let (_, same) = subst (λ (o : Option Name). OpensPart release image part old o new) none passes in
-    changes_same old new p a same
 
 pub changes_on : (old middle new : Head) (p q r : Bool) (a b c : Option (List ℕ)) → TellsChanges old middle p q a b → TellsChanges middle new q r b c → TellsChanges old new p r a c
 changes_on old middle new p q r a b c first second = record {

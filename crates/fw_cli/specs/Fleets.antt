@@ -1,11 +1,11 @@
 -- For private clauses alone: the addresses of several meters in one process, their files, who may ask them, and their rounds.
-use Rattle.std.specs.Prelude.{◌≡◌, ℕ, ◌+◌, ◌-◌, ◌<◌, ◌==◌, if◌then◌else◌, List, [], ◌∷◌, ◌++◌, Bool, Option, codes, decimal, get_or, length, map, set}
+use Rattle.std.specs.Prelude.{◌≡◌, ℕ, zero, suc, ◌+◌, ◌-◌, ◌<◌, ◌≤◌, ◌==◌, if◌then◌else◌, List, [], ◌∷◌, ◌++◌, Bool, Option, Some, codes, decimal, get_or, length, map, set}
 use Rattle.std.specs.declared.net.socket_addr.SocketAddr.{SocketAddr}
 use Rattle.std.specs.Net.Socket.{socket_ip, socket_port, SameFlowAndScope}
 use Rattle.fw_names.specs.Name.{Name}
 use Rattle.fw_daemon.specs.Daemon.{Daemon, daemon_of}
-use Rattle.fw_daemon.specs.Rounds.{GoesRound, TellsSwitches, named}
-use Rattle.fw_cli.specs.Telling.{IsSaid}
+use Rattle.fw_daemon.specs.Rounds.{GoesRounds, switches_in}
+use Rattle.fw_cli.specs.Telling.{IsSaid, Switch, switches_by}
 use Rattle.fw_cli.specs.declared.fleet.Member.{Member}
 
 -- The ports of --count: that of the meter of this number, from 1 on, if the first meter has this one. Of port 0 the system picks one for
@@ -27,38 +27,72 @@ path_of store number = store ++ (codes "." ++ decimal number)
 abbrev pub HasHeads : List SocketAddr → Member → Type 0
 HasHeads heads member = (daemon_of member.daemon).heads ≡ heads
 
--- ---- their rounds
+-- ---- their turns
+
+-- the most rounds of one meter before the others have their turn
+abbrev pub most_rounds : ℕ
+most_rounds = 16
 
 abbrev pub daemons_of : List Member → List Daemon
 daemons_of members = map (λ (member : Member). daemon_of member.daemon) members
 
--- the meter at this place makes a round
-pub record OneGoes (old : List Daemon) (place : ℕ) (activated : Option Name) (new : List Daemon) : Type 0 where
+-- A turn of the meter at a place, from 0 on: the rounds that it makes one after another, the newest first, each with what it switched to.
+abbrev pub FleetTurn : Type 0
+FleetTurn = ℕ × List (Option Name)
+
+-- the meter at its place has this turn
+pub record OneGoes (old : List Daemon) (turn : FleetTurn) (new : List Daemon) : Type 0 where
   pub before : Daemon
   pub after : Daemon
-  pub within : place < length old
-  pub there : get_or old place before ≡ before
-  pub goes : GoesRound before activated after
-  pub others : new ≡ set old place after
+  pub within : turn.0 < length old
+  pub there : get_or old turn.0 before ≡ before
+  pub goes : GoesRounds before turn.1 after
+  pub few : length turn.1 ≤ most_rounds
+  pub others : new ≡ set old turn.0 after
 
--- meters made these rounds, the newest first, each of the meter at its place
-abbrev pub AllGo : List Daemon → List (ℕ × Option Name) → List Daemon → Type 0
+-- meters had these turns, the newest first
+abbrev pub AllGo : List Daemon → List FleetTurn → List Daemon → Type 0
 AllGo start [] now = now ≡ start
-AllGo start (round ∷ rounds) now = (before : List Daemon) × AllGo start rounds before × OneGoes before round.0 round.1 now
+AllGo start (turn ∷ turns) now = (before : List Daemon) × AllGo start turns before × OneGoes before turn now
 
--- the names of the images that one of them switched to, the oldest first
-abbrev pub switches_of : List (ℕ × Option Name) → List Name
+-- the switches in them, the oldest first: the number of a meter is one more than its place
+abbrev pub switches_of : List FleetTurn → List Switch
 switches_of [] = []
-switches_of (round ∷ rounds) = switches_of rounds ++ named round.1
+switches_of (turn ∷ turns) = switches_of turns ++ switches_by (Some (turn.0 + 1)) (switches_in turn.1)
 
--- meters made rounds, and who watches them was told of just the switches in them
-pub record AreWatched {W : Type 0} (tells : W → List Name → W → Type 0) (start : List Daemon) (old : W) (now : List Daemon) (new : W) : Type 0 where
-  pub rounds : List (ℕ × Option Name)
-  pub made : AllGo start rounds now
-  pub told : TellsSwitches tells (switches_of rounds) old new
+-- ---- who watches them
 
--- meters made rounds, and of switches just those in them were told
+-- who watches was told of these switches meanwhile, the oldest first
+abbrev pub IsTold : {W : Type 0} → (W → List Switch → W → Type 0) → List Switch → W → W → Type 0
+IsTold {W} tells switches old new = (start : W) (before : List Switch) → tells start before old → tells start (before ++ switches) new
+
+-- the meter of this number made a turn's rounds, and who watches was told of just the switches in them
+pub record OneIsWatched {W : Type 0} (tells : W → List Switch → W → Type 0) (number : ℕ) (start : Daemon) (old : W) (now : Daemon) (new : W) : Type 0 where
+  pub rounds : List (Option Name)
+  pub made : GoesRounds start rounds now
+  pub few : length rounds ≤ most_rounds
+  pub told : IsTold tells (switches_by (Some number) (switches_in rounds)) old new
+
+-- meters had turns, and who watches them was told of just the switches in them
+pub record AreWatched {W : Type 0} (tells : W → List Switch → W → Type 0) (start : List Daemon) (old : W) (now : List Daemon) (new : W) : Type 0 where
+  pub turns : List FleetTurn
+  pub made : AllGo start turns now
+  pub told : IsTold tells (switches_of turns) old new
+
+-- the places below one, the last first
+abbrev pub places_below : ℕ → List ℕ
+places_below zero = []
+places_below (suc place) = place ∷ places_below place
+
+-- a pass: each of so many meters had one turn, in their order
+pub record HadPass {W : Type 0} (tells : W → List Switch → W → Type 0) (count : ℕ) (start : List Daemon) (old : W) (now : List Daemon) (new : W) : Type 0 where
+  pub turns : List FleetTurn
+  pub made : AllGo start turns now
+  pub each : map (λ (turn : FleetTurn). turn.0) turns ≡ places_below count
+  pub told : IsTold tells (switches_of turns) old new
+
+-- meters had turns, and of switches just those in them were told
 pub record TellsAll (start now : List Daemon) (was_lost is_lost : Bool) (before after : Option (List ℕ)) : Type 0 where
-  pub rounds : List (ℕ × Option Name)
-  pub made : AllGo start rounds now
-  pub said : IsSaid (switches_of rounds) was_lost is_lost before after
+  pub turns : List FleetTurn
+  pub made : AllGo start turns now
+  pub said : IsSaid (switches_of turns) was_lost is_lost before after

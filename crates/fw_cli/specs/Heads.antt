@@ -72,7 +72,6 @@ IsOfList fault = ⊥
 -- of what is opened, before it is
 abbrev pub IsOfOpeningSetup : Fault → Type 0
 IsOfOpeningSetup ImageFault = Unit {0}
-IsOfOpeningSetup BadSetup = Unit {0}
 IsOfOpeningSetup (OpenRefused refusal) = Unit {0}
 IsOfOpeningSetup OutOfMemory = Unit {0}
 IsOfOpeningSetup fault = ⊥
@@ -82,7 +81,7 @@ abbrev pub IsAskedFor : HeadOptions → Fault → Type 0
 IsAskedFor options BadSetup = IsTrue (is_some options.opening)
 IsAskedFor options ImageFault = IsTrue (is_some options.opening)
 IsAskedFor options (OpenRefused refusal) = IsTrue (is_some options.opening)
-IsAskedFor options (CancelRefused refusal) = IsTrue (is_some options.cancel)
+IsAskedFor options (CancelRefused refusal) = options.cancel.items ≢ []
 IsAskedFor options BookExists = IsTrue options.book.is_new
 IsAskedFor options NoBook = options.book.is_new ≡ false
 IsAskedFor options (BadBook offset) = options.book.is_new ≡ false
@@ -91,6 +90,27 @@ IsAskedFor options ForeignHead = options.book.is_new ≡ false
 IsAskedFor options CaptureFault = IsTrue (is_some options.capture)
 IsAskedFor options ForeignCapture = IsTrue (is_some options.capture)
 IsAskedFor options fault = IsKeyed options.sealing fault
+
+-- of what is opened, once the book is there
+abbrev pub IsOfOpened : {X : Type 0} → Option X → Fault → Type 0
+IsOfOpened opened BadSetup = IsTrue (is_some opened)
+IsOfOpened opened (OpenRefused refusal) = IsTrue (is_some opened)
+IsOfOpened opened OutOfMemory = Unit {0}
+IsOfOpened opened fault = ⊥
+
+-- of what is judged: the campaigns that these name, which are cancelled first, and what is opened then
+abbrev pub IsOfJudging : {X Y : Type 0} → List Y → Option X → Fault → Type 0
+IsOfJudging named opened (CancelRefused refusal) = named ≢ []
+IsOfJudging named opened fault = IsOfOpened opened fault
+
+-- of what is cancelled and opened
+abbrev pub IsOfBeginning : {X Y : Type 0} → List Y → Option X → Fault → Type 0
+IsOfBeginning cancels opened (CancelRefused refusal) = cancels ≢ []
+IsOfBeginning cancels opened (OpenRefused refusal) = IsTrue (is_some opened)
+IsOfBeginning cancels opened BookFault = Unit {0}
+IsOfBeginning cancels opened Full = Unit {0}
+IsOfBeginning cancels opened OutOfMemory = Unit {0}
+IsOfBeginning cancels opened fault = ⊥
 
 -- of the cancelling of a campaign
 abbrev pub IsOfCancelling : Fault → Type 0

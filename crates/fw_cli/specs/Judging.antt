@@ -1,21 +1,17 @@
 -- For private clauses alone: what is known of the inputs of `head` before a file is made.
-use Rattle.std.specs.Prelude.{◌≡◌, ℕ, Option, None, Some, All}
-use Rattle.fw_book.specs.Changes.{cancel_refusal}
+use Rattle.std.specs.Prelude.{◌≡◌, List, [], Option, None, Some, All}
 use Rattle.fw_book.specs.Contents.{Contents}
-use Rattle.fw_host.specs.Openings.{IsTakenBy, campaign_in}
-use Rattle.fw_cli.specs.declared.head.Asked.{Asked}
-use Rattle.fw_cli.specs.declared.head.Opened.{Opened}
-use Rattle.fw_cli.specs.declared.head.HeadOptions.{HeadOptions}
+use Rattle.fw_plan.specs.declared.part.Part.{Part}
+use Rattle.fw_host.specs.Openings.{IsCancelledBy, IsTakenBy}
+use Rattle.fw_cli.specs.declared.beginning.Changes.{Changes}
+use Rattle.fw_cli.specs.declared.beginning.Opened.{Opened}
 
--- the book takes each campaign that is opened, or has it
-abbrev pub IsOpenable : Contents → Option Opened → Type 0
-IsOpenable book None = Unit {0}
-IsOpenable book (Some opened) = All (IsTakenBy book opened.release opened.image.items) opened.parts.items
+-- the book takes each of these campaigns of what is opened
+abbrev pub AreTaken : Contents → Option Opened → List Part → Type 0
+AreTaken book None parts = Unit {0}
+AreTaken book (Some opened) parts = All (IsTakenBy book opened.image.items) parts
 
-abbrev pub IsAdmitted : Contents → Option ℕ → Option Opened → Type 0
-IsAdmitted book None opened = IsOpenable book opened
-IsAdmitted book (Some serial) opened = cancel_refusal book (campaign_in book serial) ≡ None
-
--- The book refuses nothing that is asked of it: the cancelling of a campaign, or the openings, if none is cancelled first.
-abbrev pub IsJudged : Contents → HeadOptions → Asked → Type 0
-IsJudged book options asked = IsAdmitted book options.cancel asked.opened
+-- The book refuses nothing that is asked of it: no cancelling, and no opening, if none is cancelled first.
+pub record IsJudged (book : Contents) (opened : Option Opened) (changes : Changes) : Type 0 where
+  pub admitted : All (IsCancelledBy book) changes.cancels.items
+  pub taken : changes.cancels.items ≡ [] → AreTaken book opened changes.parts.items

@@ -12,6 +12,7 @@ pub mod Scripts
 pub mod Heads
 pub mod Beginning
 pub mod Cancelling
+pub mod GivingUp
 pub mod Keying
 pub mod Laws
 -- For private clauses alone: no public clause cites it.

@@ -14,29 +14,37 @@ use Rattle.fw_host.specs.Telling.{Told, lines_of_rows}
 
 -- ---- of meters
 
+-- a meter switched to the image of this name: of several meters, the one of this number
+abbrev pub Switch : Type 0
+Switch = Option ℕ × Name
+
+-- the switches of a meter to the images of these names
+abbrev pub switches_by : Option ℕ → List Name → List Switch
+switches_by number names = map (λ (name : Name). (number, name)) names
+
 pub data Said : Type 0 where
-  -- the meter switched to the image of this name
-  switched : Name → Said
+  -- a meter switched to an image
+  switched : Switch → Said
   -- so much was dropped, so often the port failed, and so many datagrams didn't open
   lacked : Dropped → ℕ → ℕ → Said
 
 abbrev pub line_of : Said → List ℕ
-line_of (switched name) = activated_line name
+line_of (switched one) = activated_line one.0 one.1
 line_of (lacked dropped faults unopened) = dropped_line dropped faults unopened
 
 abbrev pub lines_of : List Said → List (List ℕ)
 lines_of said = map (λ (one : Said). line_of one) said
 
--- the names of the images of which it was said that the meter switched to them
-abbrev pub names_in : List Said → List Name
-names_in [] = []
-names_in (switched name ∷ said) = name ∷ names_in said
-names_in (lacked dropped faults unopened ∷ said) = names_in said
+-- the switches of which it was said
+abbrev pub switches_said : List Said → List Switch
+switches_said [] = []
+switches_said (switched one ∷ said) = one ∷ switches_said said
+switches_said (lacked dropped faults unopened ∷ said) = switches_said said
 
--- what is said of a round
-abbrev pub said_of : Option Name → List Said
-said_of None = []
-said_of (Some name) = switched name ∷ []
+-- what is said of a round of a meter
+abbrev pub said_of : Option ℕ → Option Name → List Said
+said_of number None = []
+said_of number (Some name) = switched (number, name) ∷ []
 
 -- what is said of what was dropped, if anything is
 abbrev pub lack_of : Bool → Dropped → ℕ → ℕ → List Said
@@ -44,16 +52,16 @@ lack_of true dropped faults unopened = lacked dropped faults unopened ∷ []
 lack_of false dropped faults unopened = []
 
 -- of switches just these were told, in this order
-pub record IsSaid (names : List Name) (was_lost is_lost : Bool) (before after : Option (List ℕ)) : Type 0 where
+pub record IsSaid (switches : List Switch) (was_lost is_lost : Bool) (before after : Option (List ℕ)) : Type 0 where
   pub said : List Said
-  pub names_are : names_in said ≡ names
+  pub are : switches_said said ≡ switches
   pub told : Told (lines_of said) was_lost is_lost before after
 
--- a meter made rounds, and of switches just those in them were told
+-- a meter that is alone made rounds, and of switches just those in them were told
 pub record TellsRounds (start now : Daemon) (was_lost is_lost : Bool) (before after : Option (List ℕ)) : Type 0 where
   pub rounds : List (Option Name)
   pub made : GoesRounds start rounds now
-  pub said : IsSaid (switches_in rounds) was_lost is_lost before after
+  pub said : IsSaid (switches_by None (switches_in rounds)) was_lost is_lost before after
 
 -- ---- of head ends
 

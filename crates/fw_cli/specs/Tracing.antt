@@ -1,6 +1,6 @@
 -- Public vocabulary: what the command `trace` does to its reader and its writers, where the bytes that these hold are known: what the reader has
 -- left before and after, and what a writer holds at first and at last.
-use Rattle.std.specs.Prelude.{◌≡◌, ℕ, List, Option, None, Some}
+use Rattle.std.specs.Prelude.{◌≡◌, ℕ, Bool, List, Option, None, Some}
 use Rattle.std.specs.Io.KnownBytes.{Appends}
 use Rattle.fw_capture.specs.declared.fault.CaptureError.{CaptureError}
 use Rattle.fw_dissect.specs.Captures.{IsPlainCapture}
@@ -22,12 +22,12 @@ WritesPlainIf links input (Some first) None = ⊥
 WritesPlainIf links input (Some first) (Some last) =
     (ending : Option CaptureError) × (bytes : List ℕ) × IsPlainCapture links input ending bytes × Appends first last bytes
 
--- All input was read, and what it tells as a capture was written, up to its end or its first fault, to who has these links.
-pub record WritesTrace (links : List Ends) (ending : Option CaptureError) (before after first last : Option (List ℕ))
+-- All input was read, and what it tells as a capture was written, up to its end or its first fault, to who has these links, with times or without.
+pub record WritesTrace (times : Bool) (links : List Ends) (ending : Option CaptureError) (before after first last : Option (List ℕ))
     (plain_first plain_last : Option (Option (List ℕ))) : Type 0 where
   pub input : List ℕ
   pub text : List ℕ
   pub read : ReadsAll before after input
-  pub tells : TellsCapture links input ending text
+  pub tells : TellsCapture times links input ending text
   pub written : Appends first last text
   pub plain : WritesPlainIf links input plain_first plain_last

@@ -1,10 +1,10 @@
 //! The command `cancel`: campaigns of a head end's book are cancelled, without a network.
 
-ghost use Rattle.std.specs.Prelude.{◌≡◌, IfErr, IsTrue, OnOk, Some, is_some};
+ghost use Rattle.std.specs.Prelude.{◌≡◌, [], IfErr, IfSome, IsSomeAnd, IsTrue, None, OnOk, Some, is_some};
 ghost use Rattle.fw_faults.specs.declared.fault.Fault.{Fault};
-ghost use Rattle.fw_kept.specs.Head.{head_of};
-ghost use Rattle.fw_cli.specs.Cancelling.{HasCancelled, IsOfCancel, IsOfCampaign, cancelled_all};
-ghost use Rattle.fw_cli.specs.Telling.{TellsChanges};
+ghost use Rattle.fw_kept.specs.Head.{book_of, head_of};
+ghost use Rattle.fw_plan.specs.Ranges.{serials_of};
+ghost use Rattle.fw_cli.specs.Cancelling.{Cancels, HasCancelled, HasStopped, IsOfCancel, IsOfCampaign, Stopped, StopsAt};
 
 use crate::head::{cancel_one, of_book};
 use fw_blocks::Width;
@@ -14,6 +14,7 @@ use fw_host::{BookOptions, Lines, kept_head};
 use fw_journal::FileDevice;
 use fw_kept::KeptHead;
 use fw_names::HeadId;
+use fw_plan::{SerialRange, serials_of};
 use std::alloc::Global;
 use std::fs::File;
 use std::io::Write;
@@ -26,8 +27,8 @@ pub struct CancelOptions<'a> {
     pub head: HeadId,
     /// The path of the file of its book.
     pub book: &'a str,
-    /// The serial numbers of the campaigns, in the order in which they are cancelled.
-    pub serials: Vec<u32>,
+    /// The campaigns, in the order in which they are cancelled. A range names those in it that have a live row when the book is opened.
+    pub campaigns: Vec<SerialRange>,
 }
 
 /// Why the command ended early.
@@ -45,6 +46,7 @@ impl CancelFault {
     /// A fault of the book.
     fn of_book(because: Because<Fault>) -> CancelFault
         ensures fault { result.fault ≡ because.error }
+        ensures serial { result.serial ≡ None }
     {
         CancelFault {
             fault: because.error,
@@ -87,6 +89,9 @@ pub fn run_cancel<F: Files<File = File> + Eprint, W: Write>(
     // Of the file's contents nothing is known here, so the head end is some one of that number.
     ensures cancelled { OnOk result (HasCancelled options.now) }
 
+    // A fault of a campaign leaves those before it cancelled.
+    ensures stopped { IfErr result (λ c. IfSome c.serial (λ serial. HasStopped options.now serial c.fault)) }
+
     // A refusal names its campaign.
     ensures serial { IfErr result (λ c. IsOfCampaign c.fault → IsTrue (is_some c.serial)) }
     ensures faults { IfErr result (λ c. IsOfCancel c.fault) }
@@ -104,7 +109,28 @@ pub fn run_cancel<F: Files<File = File> + Eprint, W: Write>(
         Err(because) => return Err(CancelFault::of_book(because)),
     };
     let mut lines = Lines::new(alloc, writer);
-    cancel_all(alloc, &mut lines, &mut kept, &options.serials)
+    cancel_named(alloc, &mut lines, &mut kept, &options.campaigns)
+}
+
+/// Cancels the campaigns that these name, and writes the line of each once that is on the device.
+fn cancel_named<W: Write>(
+    alloc: Global,
+    lines: &mut Lines<'_, W>,
+    kept: &mut KeptHead<FileDevice>,
+    named: &[SerialRange],
+) -> Result<(), CancelFault>
+    ensures cancelled { OnOk result (Cancels (serials_of (book_of kept.old) named.now) [] (head_of kept.old) (head_of kept.new) lines.old.lost
+        lines.new.lost (W.contents lines.old.writer.now) (W.contents lines.new.writer.now)) }
+    ensures stopped { IfErr result (λ c. Stopped (serials_of (book_of kept.old) named.now) c.serial c.fault (head_of kept.old) (head_of kept.new)
+        lines.old.lost lines.new.lost (W.contents lines.old.writer.now) (W.contents lines.new.writer.now)) }
+    ensures writer { lines.new.writer.ghost_name ≡ lines.old.writer.ghost_name }
+    ensures serial { IfErr result (λ c. IsOfCampaign c.fault → IsTrue (is_some c.serial)) }
+    ensures faults { IfErr result (λ c. IsOfCancel c.fault) }
+{
+    match serials_of(alloc, kept.head().view().book, named) {
+        Ok(serials) => cancel_all(alloc, lines, kept, &serials),
+        Err(_) => Err(CancelFault::of_book(Because::from(Fault::OutOfMemory))),
+    }
 }
 
 /// Cancels these campaigns in their order, and writes the line of each once that is on the device.
@@ -114,11 +140,11 @@ fn cancel_all<W: Write>(
     kept: &mut KeptHead<FileDevice>,
     serials: &[u32],
 ) -> Result<(), CancelFault>
-    ensures cancelled { OnOk result (head_of kept.new ≡ cancelled_all serials.now (head_of kept.old)) }
+    ensures cancelled { OnOk result (Cancels serials.now [] (head_of kept.old) (head_of kept.new) lines.old.lost lines.new.lost
+        (W.contents lines.old.writer.now) (W.contents lines.new.writer.now)) }
+    ensures stopped { IfErr result (λ c. IsSomeAnd c.serial (λ serial. StopsAt serials.now serial c.fault (head_of kept.old) (head_of kept.new)
+        lines.old.lost lines.new.lost (W.contents lines.old.writer.now) (W.contents lines.new.writer.now))) }
     ensures writer { lines.new.writer.ghost_name ≡ lines.old.writer.ghost_name }
-    ensures told { TellsChanges (head_of kept.old) (head_of kept.new) lines.old.lost lines.new.lost (W.contents lines.old.writer.now)
-        (W.contents lines.new.writer.now) }
-    ensures serial { IfErr result (λ c. IsTrue (is_some c.serial)) }
     ensures faults { IfErr result (λ c. IsOfCancel c.fault) }
 {
     for serial in serials {

@@ -27,16 +27,17 @@ ghost use Rattle.fw_store.specs.Setup.{IsSetup};
 ghost use Rattle.fw_store.specs.declared.version.HeaderVersion.TheVariants.{Two};
 ghost use Rattle.fw_daemon.specs.Daemon.{daemon_of};
 ghost use Rattle.fw_daemon.specs.Rounds.{GoesRound};
-ghost use Rattle.fw_cli.specs.Fleets.{AreWatched, HasHeads, IsAddressOf, TellsAll, daemons_of, path_of, port_of};
+ghost use Rattle.fw_cli.specs.Fleets.{AreWatched, HadPass, HasHeads, IsAddressOf, OneIsWatched, TellsAll, daemons_of, path_of, port_of};
 ghost use Rattle.fw_cli.specs.Faults.{IsOfPlainMeter, IsOfPlainServing, NamesMeter};
 ghost use Rattle.fw_host.specs.Captures.{IsOfCapture};
 ghost use Rattle.fw_host.specs.Meters.{IsOfSetup, IsOfStore, default_factory, listening_line};
 ghost use Rattle.fw_cli.specs.declared.fleet.Member.{Member};
 
 use crate::capture_file::{CaptureFile, closing_plain, failure_of};
+use crate::fleet_watch::FleetWatch;
 use crate::judged::{Judge, Judged};
 use crate::meter::{Listening, MeterFault, MeterOptions, Teller, heads_of, strangers_of};
-use fw_daemon::{Dropped, MeterDaemon, Watch, step};
+use fw_daemon::{Dropped, MeterDaemon, step};
 use fw_disk::Because;
 use fw_faults::{Fault, write_text};
 use fw_host::{CapturePort, Lines, Strangers, listening_line};
@@ -52,8 +53,11 @@ use std::sync::Wait;
 use std::thread;
 use std::time::Duration;
 
-/// How long it is waited after each round of all meters, in microseconds.
+/// How long it is waited after a pass in which nothing came to any meter, in microseconds.
 const PAUSE: u64 = 200;
+
+/// The most rounds of one meter before the others have their turn, so that they don't wait for long where datagrams come to it without end.
+const MOST_ROUNDS: u32 = 16;
 
 /// A meter with its port.
 #[derive(Drop)]
@@ -70,14 +74,15 @@ struct Site {
     judged: Judged,
 }
 
-/// What meters have in common, and what of their datagrams was dropped up to the last round.
+/// What meters have in common, and what of their datagrams was dropped up to the last pass.
 #[derive(Drop)]
 struct Common {
     /// The strangers to each of them, who have one capture.
     strangers: Strangers,
     /// The file of that, if one is asked for.
     capture: Option<CaptureFile>,
-    /// Whether a record couldn't be written in the last round of a meter.
+    /// Whether a datagram came in the last round of a meter, and whether a record couldn't be written in it.
+    has_heard: bool,
     has_failed: bool,
     dropped: Dropped,
     faults: u64,
@@ -103,30 +108,60 @@ impl Member {
             common.capture.as_mut(),
         );
         let stepped = step(alloc, &mut port, &mut self.daemon);
+        common.has_heard = port.has_heard();
         common.has_failed = port.has_failed();
         stepped
     }
+
+    /// A turn of the meter of this number: rounds as long as datagrams come, up to the most of them. It returns whether there may be more to do
+    /// at once: a datagram came, or an image is verified.
+    fn turn<C: Clock, W: FleetWatch>(
+        &mut self,
+        rt: &C,
+        alloc: Global,
+        number: usize,
+        common: &mut Common,
+        watch: &mut W,
+    ) -> Result<bool, Closed>
+        ensures watched { OneIsWatched W.tells number (daemon_of self.old.daemon) watch.old (daemon_of self.new.daemon) watch.new }
+    {
+        let mut has_heard = false;
+        for made in 0..MOST_ROUNDS {
+            let activated = self.step(rt, alloc, common)?;
+            let unopened = self.port.unopened();
+            watch.round_of(number, activated, common.dropped, common.faults, unopened);
+            if common.has_failed {
+                return Err(Closed);
+            }
+            if !common.has_heard {
+                return Ok(has_heard || self.daemon.is_verifying());
+            }
+            has_heard = true;
+        }
+        Ok(true)
+    }
 }
 
-/// A round of each of these meters, as if it were alone.
-fn step_each<C: Clock, W: Watch>(
+/// A pass: a turn of each of these meters, as if it were alone. It returns whether there may be more to do at once.
+fn turn_each<C: Clock, W: FleetWatch>(
     rt: &C,
     alloc: Global,
     members: &mut [Member],
     common: &mut Common,
     watch: &mut W,
-) -> Result<(), Closed>
+) -> Result<bool, Closed>
     ensures watched { AreWatched W.tells (daemons_of members.old) watch.old (daemons_of members.new) watch.new }
+    ensures pass { OnOk result (HadPass W.tells (length members.old) (daemons_of members.old) watch.old (daemons_of members.new) watch.new) }
 {
+    let mut has_more = false;
+    let mut before = 0;
     for member in members.iter_mut() {
-        let activated = member.step(rt, alloc, common)?;
-        let unopened = member.port.unopened();
-        watch.round(activated, common.dropped, common.faults, unopened);
-        if common.has_failed {
-            return Err(Closed);
-        }
+        let number = before + 1;
+        let is_busy = member.turn(rt, alloc, number, common, watch)?;
+        has_more = has_more || is_busy;
+        before = number;
     }
-    Ok(())
+    Ok(has_more)
 }
 
 /// Meters in one process.
@@ -185,6 +220,7 @@ fn serve_members<R: Files<File = File> + Clock + Wait, W: Write>(
     let common = Common {
         strangers: strangers_of(alloc, &options.heads, options.captures_strangers)?,
         capture: file,
+        has_heard: false,
         has_failed: false,
         dropped: Dropped {
             strangers: 0,
@@ -394,7 +430,7 @@ fn listening_lines(alloc: Global, members: &[Member]) -> Result<String, AllocErr
 }
 
 impl Fleet {
-    /// Rounds of all meters, until the port of one is closed, and writes the lines of what there is to tell of them.
+    /// Serves all meters, until the port of one is closed, and writes the lines of what there is to tell of them.
     fn serve_told<R: Clock + Wait, W: Write>(
         &mut self,
         rt: &R,
@@ -405,7 +441,7 @@ impl Fleet {
         self.serve_watched(rt, alloc, &mut teller)
     }
 
-    /// The same, told by this teller: each image that one of them switches to, once and in order.
+    /// The same, told by this teller: each image that one of them switches to, with the number of the meter, once and in order.
     fn serve_watched<R: Clock + Wait, W: Write>(
         &mut self,
         rt: &R,
@@ -420,32 +456,41 @@ impl Fleet {
         self.serve(rt, alloc, teller)
     }
 
-    /// Rounds of all meters, until the port of one is closed.
-    fn serve<R: Clock + Wait, W: Watch>(&mut self, rt: &R, alloc: Global, watch: &mut W) -> Closed
+    /// Passes over all meters, until the port of one is closed. It waits after one in which there was nothing to do, and after no other: what
+    /// comes to one meter without end must not keep datagrams from the others.
+    fn serve<R: Clock + Wait, W: FleetWatch>(
+        &mut self,
+        rt: &R,
+        alloc: Global,
+        watch: &mut W,
+    ) -> Closed
         ensures watched { AreWatched W.tells (daemons_of self.old.members.items) watch.old (daemons_of self.new.members.items) watch.new }
     {
         for _ in rt.forever() {
-            match self.round(rt, alloc, watch) {
-                Ok(()) => thread::sleep(rt, Duration::from_micros(PAUSE)),
+            let has_more = match self.pass(rt, alloc, watch) {
+                Ok(has_more) => has_more,
                 Err(closed) => return closed,
+            };
+            if !has_more {
+                thread::sleep(rt, Duration::from_micros(PAUSE));
             }
         }
         unreachable!()
     }
 
-    /// A round of each meter.
-    fn round<C: Clock, W: Watch>(
+    /// A turn of each meter. It returns whether there may be more to do at once.
+    fn pass<C: Clock, W: FleetWatch>(
         &mut self,
         rt: &C,
         alloc: Global,
         watch: &mut W,
-    ) -> Result<(), Closed>
+    ) -> Result<bool, Closed>
         ensures watched { AreWatched W.tells (daemons_of self.old.members.items) watch.old (daemons_of self.new.members.items) watch.new }
     {
         let members = self.members.as_mut_slice();
-        step_each(rt, alloc, members, &mut self.common, watch)?;
+        let has_more = turn_each(rt, alloc, members, &mut self.common, watch)?;
         self.count();
-        Ok(())
+        Ok(has_more)
     }
 
     /// Counts what was dropped up to now.

@@ -1,45 +1,43 @@
 //! The command `head`: a head end whose book is in a file leads meters over UDP to the images that they are offered.
 
-ghost use Rattle.std.specs.Prelude.{◌≡◌, ◌≢◌, ◌⊎◌, [], ℕ, List, Option, All, IfErr, IfOk, IsTrue, OnErr, OnOk, None, Some, false, is_some};
+ghost use Rattle.std.specs.Prelude.{◌≡◌, ◌≢◌, ◌≤◌, ◌⊎◌, ◌∷◌, [], ℕ, List, IfErr, IfOk, IsTrue, OnErr, OnOk, None, Some, false, is_some};
 ghost use Rattle.std.specs.Io.KnownBytes.{Keeps};
-ghost use Rattle.std.specs.Map.{values_of};
-ghost use Rattle.fw_head.specs.Head.{BeginsWith, cancelled_head};
-ghost use Rattle.fw_names.specs.Name.{Name};
+ghost use Rattle.fw_head.specs.Head.{BeginsWith, campaign_at, cancelled_head};
 ghost use Rattle.fw_journal.specs.File.{cause_of};
 ghost use Rattle.fw_kept.specs.Head.{book_of, head_of};
 ghost use Rattle.fw_rollout.specs.Counting.{counted_of};
 ghost use Rattle.fw_rollout.specs.Daemon.{HasRunOut, IsLed, IsOver, meters_of, timing_of};
 ghost use Rattle.fw_rollout.specs.Leading.{Leader};
-ghost use Rattle.fw_host.specs.Addresses.{HasAddress};
 ghost use Rattle.fw_host.specs.Captures.{IsOfCapture};
-ghost use Rattle.fw_host.specs.Heads.{ComesBeforeLines, IsOfHead, IsOfHeadSetup, IsOfLeading};
+ghost use Rattle.fw_host.specs.Heads.{ComesBeforeLines, IsCancelFault, IsOfHead, IsOfHeadSetup, cancelled_line};
 ghost use Rattle.fw_host.specs.Lists.{SpellsList};
-ghost use Rattle.fw_host.specs.Openings.{ArePartsOf, OpensPart, OpensParts, listed_meters};
-ghost use Rattle.fw_book.specs.Changes.{empty_book};
-ghost use Rattle.fw_cli.specs.Beginning.{Begins, HasLedOut, HasLedTo, IsDaemonOf, IsOpeningOf, cancelled_first};
+ghost use Rattle.fw_host.specs.Telling.{Told};
+ghost use Rattle.fw_book.specs.Changes.{cancel_refusal, empty_book};
+ghost use Rattle.fw_cli.specs.Beginning.{AreChanges, HasLedOut, HasLedTo, IsDaemonOf, IsOpeningOf};
 ghost use Rattle.fw_cli.specs.Judging.{IsJudged};
-ghost use Rattle.fw_cli.specs.Heads.{IsAskedFor, IsOfCancelling, IsOfList, IsOfOpening, IsOfOpeningSetup, IsOfStop};
+ghost use Rattle.fw_cli.specs.Heads.{IsAskedFor, IsOfCancelling, IsOfList, IsOfStop};
 ghost use Rattle.fw_cli.specs.Reasons.{reason_of};
 ghost use Rattle.fw_cli.specs.Faults.{IsKeyed};
 ghost use Rattle.fw_cli.specs.Sealing.{IsHeadSealing, links_in, links_of, options_of};
 ghost use Rattle.fw_cli.specs.Telling.{TellsChanges, TellsEnded};
 
+use crate::beginning::{Changes, Opened, begin, judge, opened_of};
 use crate::capture_file::{CaptureFile, closing, failure_of, reason_of};
-use crate::going_on::tell_going_on;
+use crate::going_on::{tell_going_on, tell_unlisted};
 use crate::meter::{Listening, RecordedPort, tell_listening};
 use crate::sealing::{JudgedSealing, Keyed, keyed_head};
 use fw_blocks::Width;
-use fw_book::{Book, BookError};
+use fw_book::Book;
 use fw_disk::Because;
 use fw_faults::{Fault, Reads, read_input};
 use fw_host::{
-    BookOptions, CapturePort, ClosedBy, DatagramPort, HeadProgress, Lines, Opening, Part,
-    ProgressOutput, Sealing, SealingOptions, Strangers, UdpHeadPort, cancel, check_absent,
-    check_addresses, check_cancel, check_parts, date, kept_head, open_missing, parts_of, read_list,
+    BookOptions, CapturePort, ClosedBy, DatagramPort, HeadProgress, Lines, Opening, ProgressOutput,
+    Sealing, SealingOptions, Strangers, UdpHeadPort, cancel, check_absent, kept_head, read_list,
 };
 use fw_journal::{FileDevice, JournalDevice};
 use fw_kept::KeptHead;
 use fw_names::{CampaignId, HeadId};
+use fw_plan::{SerialRange, UnlistedRow};
 use fw_port::UdpPort;
 use fw_recording::Sink;
 use fw_rollout::{HeadDaemon, Listed, MeterList, Stop, Timing, serve_head};
@@ -55,7 +53,7 @@ use std::sync::Wait;
 const WAIT_LIMIT: u64 = 5;
 
 /// The options of the command.
-#[derive(Clone, Copy)]
+#[derive(Drop)]
 pub struct HeadOptions<'a> {
     /// The head end.
     pub head: HeadId,
@@ -65,8 +63,8 @@ pub struct HeadOptions<'a> {
     pub meters: &'a str,
     /// The address that it asks from.
     pub listen: SocketAddr,
-    /// The serial number of the campaign that is cancelled first, at least 1.
-    pub cancel: Option<u32>,
+    /// The campaigns that are cancelled first.
+    pub cancel: Vec<SerialRange>,
     /// What is opened then.
     pub opening: Option<Opening<'a>>,
     /// How many blocks are sent to a meter at a time.
@@ -83,21 +81,25 @@ pub struct HeadOptions<'a> {
     pub sealing: Option<SealingOptions<'a>>,
 }
 
-/// How the rows ended that a head end led, once none is live.
+/// What a head end led its rows to, once none is live that it leads.
 #[derive(Clone, Copy, PartialEq, Eq, Debug)]
 pub enum LedOut {
-    /// None of them failed.
+    /// None is live, and none of those that it led failed.
     NoneFailed,
-    /// One of them failed at least.
+    /// None is live, and one of those that it led failed at least.
     SomeFailed,
+    /// One is live at least, since its meter isn't in the list.
+    SomeUnlisted,
 }
 
 impl LedOut {
-    /// How rows ended, if this many of them failed.
-    fn of(failed: u64) -> LedOut
-        ensures { HasLedTo failed result }
+    /// What it led them to, if it didn't lead these, and so many of those that it led failed.
+    fn of(unlisted: &[UnlistedRow], failed: u64) -> LedOut
+        ensures { HasLedTo unlisted.now failed result }
     {
-        if failed == 0 {
+        if !unlisted.is_empty() {
+            LedOut::SomeUnlisted
+        } else if failed == 0 {
             LedOut::NoneFailed
         } else {
             LedOut::SomeFailed
@@ -105,7 +107,8 @@ impl LedOut {
     }
 }
 
-/// The head end leads each live row of its book to its end. It may be ended at any moment, and goes on there when it is run again.
+/// The head end leads each live row of its book to its end whose meter is in the list. It may be ended at any moment, and goes on there when
+/// it is run again.
 ///
 /// If a capture is asked for, its file is gone on with, or made if no file is there. It gets the start of the process, and what is received
 /// and sent, each before it is handled or sent. What comes from addresses that are not in the list is counted in it, unless that is asked for
@@ -120,7 +123,7 @@ impl LedOut {
 /// The writer gets the line `listening ..`, once datagrams are received, `cancelled ..` and `opened ..` for each campaign, `row ..` for each
 /// row that ended, each once the disk has it, and `over ..` at the end. Each is flushed. After the first, a line that can't be written is
 /// lost. Standard error shows the progress as `progress` says. It is told of records that the book lacks, and of the file that keeps them
-/// ([`kept_head`]), and then of each campaign that has live rows from an earlier run.
+/// ([`kept_head`]), then of each campaign that has live rows from an earlier run, and of each live row whose meter isn't in the list.
 ///
 /// # Errors
 ///
@@ -130,11 +133,10 @@ impl LedOut {
 /// - `ImageFault`: the image can't be read. `OpenRefused` with `ImageTooLong`: it has more than 64 MiB.
 /// - `KeysFault`, `KeysReadable`, `BadKeys`: the file of the keys can't be opened or read, others than its owner may read it, or this line is
 ///   none of it. `NoKey`: the meter of this number is in the list, and has no line in that file.
-/// - `BadSetup`: the campaigns that are opened need greater serial numbers than there are, or begin at 0, which is none.
+/// - `BadSetup`: the campaigns that are opened need more serial numbers than are free, or begin at 0, which is none.
 /// - `Socket`: the address can't be received at. Or the socket failed 1,000 times in a row while the head end led, or the system had no time.
 /// - `NoBook`, `BookExists`, `Locked`, `BadBook`, `BadRecord`, `ForeignHead`: the file has no book that this head end may begin with. It is
 ///   left as it is, or as a journal of the same records.
-/// - `NoAddress`: the meter of this number has a live row in the book, and isn't in the list. Rows that are cancelled first need no address.
 /// - `NoCounter`, `CounterExists`: no file of counters is there and none is to be made, or one is there and is to be made. `CounterLocked`:
 ///   another process has it, whatever its book is: one at a time seals with these keys.
 /// - `CaptureFault`: the file of the capture can't be made or opened, or another process has it. Or a record can't be written while the
@@ -156,7 +158,8 @@ pub fn run_head<R: Files<File = File> + Clock + Eprint + Net + Wait, W: Write>(
     progress: ProgressOutput,
     options: &HeadOptions<'_>,
 ) -> Result<LedOut, Because<Fault>>
-    // If it ends well, what the options ask for was cancelled and opened, and no row of a daemon is live, which says how its rows ended.
+    // If it ends well, what the options ask for was cancelled and opened, and no row is live that a daemon leads. It says whether a row is
+    // live whose meter isn't in the list, and else whether one of those that it led failed.
     ensures led { IfOk result (HasLedOut options.now) }
 
     // If it stays, it ends by a fault alone.
@@ -171,13 +174,15 @@ pub fn run_head<R: Files<File = File> + Clock + Eprint + Net + Wait, W: Write>(
         file,
         mut asked,
         mut kept,
+        changes,
         sealing,
     } = set_up(rt, alloc, options)?;
     let strangers = strangers_of(alloc, options, asked.list.meters())?;
     tell_listening(alloc, writer, at)?;
     tell_going_on(rt, kept.head().view().book);
     let mut lines = Lines::new(alloc, writer);
-    begin(alloc, &mut lines, &mut kept, asked.opened.take(), options)?;
+    begin(alloc, &mut lines, &mut kept, changes, asked.opened.take())?;
+    let unlisted = tell_unlisted(rt, alloc, &kept, &asked.list)?;
     let mut daemon = daemon_of(alloc, kept, &asked.list, options)?;
     let port = RecordedPort {
         port,
@@ -188,7 +193,7 @@ pub fn run_head<R: Files<File = File> + Clock + Eprint + Net + Wait, W: Write>(
         sealing,
     };
     match lead(rt, alloc, &mut lines, progress, port, &mut daemon, options) {
-        Ok(led) => Ok(led),
+        Ok(()) => Ok(LedOut::of(&unlisted, daemon.counts().failed)),
         Err(because) => Err(of_book(because, daemon.device())),
     }
 }
@@ -245,14 +250,15 @@ struct Ready {
     file: Option<CaptureFile>,
     asked: Asked,
     kept: KeptHead<FileDevice>,
+    changes: Changes,
     /// What its links are sealed with, if there are keys.
     sealing: Option<Sealing>,
 }
 
 /// The meters of the list, and what is opened for them.
-struct Asked {
-    list: MeterList,
-    opened: Option<Opened>,
+pub(crate) struct Asked {
+    pub(crate) list: MeterList,
+    pub(crate) opened: Option<Opened>,
 }
 
 // Written out, so that letting go of it is one call in a proof. A derived `Drop` is unfolded there field by field, which takes minutes.
@@ -260,16 +266,6 @@ impl Drop for Asked {
     fn drop(self) {
         let Asked { list: _, opened: _ } = self;
     }
-}
-
-/// Campaigns that are opened, of one image.
-#[derive(Drop)]
-struct Opened {
-    parts: Vec<Part>,
-    release: u32,
-    image: Vec<u8>,
-    /// When they are opened, in seconds since 1970 began (UTC).
-    at: u64,
 }
 
 /// Reads the list, the image and the keys, binds the socket, and opens the book and the counters. A file is made once all of this is
@@ -280,11 +276,12 @@ fn set_up<R: Files<File = File> + Clock + Eprint + Net>(
     options: &HeadOptions<'_>,
 ) -> Result<Ready, Because<Fault>>
     ensures list { IfOk result (λ ready. (text : List ℕ) × SpellsList options.now.listen text ready.asked.list) }
-    ensures opening { IfOk result (λ ready. IsOpeningOf options.now.opening ready.asked.list ready.asked.opened) }
+    ensures opening { IfOk result (λ ready. IsOpeningOf options.now.opening ready.asked.opened) }
     ensures opened { IfOk result (λ ready. IsTrue (is_some ready.asked.opened) → IsTrue (is_some options.now.opening)) }
     ensures number { IfOk result (λ ready. (book_of ready.kept).head ≡ options.now.head) }
     ensures width { IfOk result (λ ready. BeginsWith (book_of ready.kept) options.now.width (head_of ready.kept)) }
-    ensures addresses { IfOk result (λ ready. All (HasAddress options.now.cancel ready.asked.list) (values_of (head_of ready.kept).rows)) }
+    ensures changes { IfOk result (λ ready. AreChanges (book_of ready.kept) options.now.cancel.items ready.asked.opened ready.asked.list
+        ready.changes) }
     ensures links { IfOk result (λ ready. IsHeadSealing options.now.sealing options.now.head ready.asked.list (links_in ready.sealing)) }
     ensures asked { IfErr result (λ b. IsAskedFor options.now b.error) }
     ensures faults { IfErr result (λ b. IsOfHeadSetup b.error) }
@@ -300,6 +297,7 @@ fn set_up<R: Files<File = File> + Clock + Eprint + Net>(
     let Listening { port, at } = Listening::of(UdpPort::bind_for(rt, options.listen, WAIT_LIMIT))?;
     let Led {
         kept,
+        changes,
         file,
         sealing,
     } = led_head(rt, alloc, options, &asked, keyed)?;
@@ -309,6 +307,7 @@ fn set_up<R: Files<File = File> + Clock + Eprint + Net>(
         file,
         asked,
         kept,
+        changes,
         sealing,
     })
 }
@@ -320,7 +319,7 @@ fn asked_of<F: Files<File = File> + Clock + Net>(
     options: &HeadOptions<'_>,
 ) -> Result<Asked, Fault>
     ensures list { IfOk result (λ asked. (text : List ℕ) × SpellsList options.now.listen text asked.list) }
-    ensures opening { IfOk result (λ asked. IsOpeningOf options.now.opening asked.list asked.opened) }
+    ensures opening { IfOk result (λ asked. IsOpeningOf options.now.opening asked.opened) }
     ensures opened { IfOk result (λ asked. IsTrue (is_some asked.opened) → IsTrue (is_some options.now.opening)) }
     ensures asked { IfErr result (IsAskedFor options.now) }
     ensures faults { IfErr result IsOfHeadSetup }
@@ -336,15 +335,17 @@ fn asked_of<F: Files<File = File> + Clock + Net>(
     })
 }
 
-/// A head end with its book, with the file of the capture, if one is asked for, and with what its links are sealed with, if there are keys.
+/// A head end with its book and what is cancelled and opened in it, with the file of the capture, if one is asked for, and with what its
+/// links are sealed with, if there are keys.
 #[derive(Drop)]
 struct Led {
     kept: KeptHead<FileDevice>,
+    changes: Changes,
     file: Option<CaptureFile>,
     sealing: Option<Sealing>,
 }
 
-/// The head end with its book, which is made last where it is to be new. Each meter that it has to ask is in the list.
+/// The head end with its book, which is made last where it is to be new.
 fn led_head<R: Files<File = File> + Clock + Eprint>(
     rt: &R,
     alloc: Global,
@@ -356,7 +357,7 @@ fn led_head<R: Files<File = File> + Clock + Eprint>(
     requires keyed { options_of keyed ≡ options.now.sealing }
     ensures number { IfOk result (λ led. (book_of led.kept).head ≡ options.now.head) }
     ensures width { IfOk result (λ led. BeginsWith (book_of led.kept) options.now.width (head_of led.kept)) }
-    ensures addresses { IfOk result (λ led. All (HasAddress options.now.cancel asked.now.list) (values_of (head_of led.kept).rows)) }
+    ensures changes { IfOk result (λ led. AreChanges (book_of led.kept) options.now.cancel.items asked.now.opened asked.now.list led.changes) }
     ensures links { IfOk result (λ led. links_in led.sealing ≡ links_of keyed.entry) }
     ensures asked { IfErr result (λ b. IsAskedFor options.now b.error) }
     ensures faults { IfErr result (λ b. IsOfHeadSetup b.error) }
@@ -368,7 +369,7 @@ fn led_head<R: Files<File = File> + Clock + Eprint>(
     }
 }
 
-/// The head end with a book that is there, each of whose meters that it has to ask is in the list.
+/// The head end with a book that is there.
 fn old_head<R: Files<File = File> + Clock + Eprint>(
     rt: &R,
     alloc: Global,
@@ -380,19 +381,19 @@ fn old_head<R: Files<File = File> + Clock + Eprint>(
     requires keyed { options_of keyed ≡ options.now.sealing }
     ensures number { IfOk result (λ led. (book_of led.kept).head ≡ options.now.head) }
     ensures width { IfOk result (λ led. BeginsWith (book_of led.kept) options.now.width (head_of led.kept)) }
-    ensures addresses { IfOk result (λ led. All (HasAddress options.now.cancel asked.now.list) (values_of (head_of led.kept).rows)) }
+    ensures changes { IfOk result (λ led. AreChanges (book_of led.kept) options.now.cancel.items asked.now.opened asked.now.list led.changes) }
     ensures links { IfOk result (λ led. links_in led.sealing ≡ links_of keyed.entry) }
     ensures asked { IfErr result (λ b. IsAskedFor options.now b.error) }
     ensures faults { IfErr result (λ b. IsOfHeadSetup b.error) }
 {
     let kept = kept_head(rt, alloc, options.book, options.head, options.width)?;
-    check_addresses(alloc, &kept, asked.list.meters(), options.cancel)?;
-    judge(kept.head().view().book, options, asked)?;
+    let changes = judge(alloc, kept.head().view().book, &options.cancel, asked)?;
     let links = JudgedSealing::of(rt, alloc, keyed)?;
     let file = CaptureFile::opened(rt, alloc, options.capture)?;
     let sealing = links.made(rt, alloc)?;
     Ok(Led {
         kept,
+        changes,
         file,
         sealing,
     })
@@ -411,14 +412,19 @@ fn new_head<R: Files<File = File> + Clock + Eprint>(
     requires keyed { options_of keyed ≡ options.now.sealing }
     ensures number { IfOk result (λ led. (book_of led.kept).head ≡ options.now.head) }
     ensures width { IfOk result (λ led. BeginsWith (book_of led.kept) options.now.width (head_of led.kept)) }
-    ensures addresses { IfOk result (λ led. All (HasAddress options.now.cancel asked.now.list) (values_of (head_of led.kept).rows)) }
+    ensures changes { IfOk result (λ led. AreChanges (book_of led.kept) options.now.cancel.items asked.now.opened asked.now.list led.changes) }
     ensures links { IfOk result (λ led. links_in led.sealing ≡ links_of keyed.entry) }
     ensures asked { IfErr result (λ b. IsAskedFor options.now b.error) }
     ensures faults { IfErr result (λ b. IsOfHeadSetup b.error) }
 {
     check_absent(rt, options.book.path)?;
-    judge(&Book::new(alloc, options.head), options, asked)?;
-    made_head(rt, alloc, options, asked, keyed)
+    let changes = judge(
+        alloc,
+        &Book::new(alloc, options.head),
+        &options.cancel,
+        asked,
+    )?;
+    made_head(rt, alloc, options, asked, changes, keyed)
 }
 
 /// The head end with a new book, which takes what is asked of it. Its file is made last.
@@ -427,14 +433,16 @@ fn made_head<R: Files<File = File> + Clock + Eprint>(
     alloc: Global,
     options: &HeadOptions<'_>,
     asked: &Asked,
+    changes: Changes,
     keyed: Option<Keyed<'_>>,
 ) -> Result<Led, Because<Fault>>
     requires is_new { IsTrue options.now.book.is_new }
-    requires judged { IsJudged (empty_book options.now.head) options.now asked.now }
+    requires changes { AreChanges (empty_book options.now.head) options.now.cancel.items asked.now.opened asked.now.list changes }
+    requires judged { IsJudged (empty_book options.now.head) asked.now.opened changes }
     requires keyed { options_of keyed ≡ options.now.sealing }
     ensures number { IfOk result (λ led. (book_of led.kept).head ≡ options.now.head) }
     ensures width { IfOk result (λ led. BeginsWith (book_of led.kept) options.now.width (head_of led.kept)) }
-    ensures addresses { IfOk result (λ led. All (HasAddress options.now.cancel asked.now.list) (values_of (head_of led.kept).rows)) }
+    ensures changes { IfOk result (λ led. AreChanges (book_of led.kept) options.now.cancel.items asked.now.opened asked.now.list led.changes) }
     ensures links { IfOk result (λ led. links_in led.sealing ≡ links_of keyed.entry) }
     ensures asked { IfErr result (λ b. IsAskedFor options.now b.error) }
     ensures faults { IfErr result (λ b. IsOfHeadSetup b.error) }
@@ -445,24 +453,10 @@ fn made_head<R: Files<File = File> + Clock + Eprint>(
     let made = kept_head(rt, alloc, options.book, options.head, options.width)?;
     Ok(Led {
         kept: made,
+        changes,
         file,
         sealing,
     })
-}
-
-/// Judges what is asked of a book. If a campaign is cancelled first, which lets go of its meters, openings are judged once it is.
-fn judge(book: &Book, options: &HeadOptions<'_>, asked: &Asked) -> Result<(), Fault>
-    ensures judged { OnOk result (IsJudged book.now options.now asked.now) }
-    ensures asked { (IsTrue (is_some asked.now.opened) → IsTrue (is_some options.now.opening)) → IfErr result (IsAskedFor options.now) }
-    ensures faults { IfErr result IsOfHeadSetup }
-{
-    if let Some(serial) = options.cancel {
-        return check_cancel(book, serial);
-    }
-    match &asked.opened {
-        Some(opened) => check_parts(book, &opened.parts, opened.release, &opened.image),
-        None => Ok(()),
-    }
 }
 
 /// The meters of the list in a file, for a head end at this address.
@@ -479,35 +473,8 @@ pub(crate) fn list_of_file<F: Files<File = File> + Net>(
     read_list(rt, alloc, &text, own)
 }
 
-/// The campaigns of an opening for the meters of a list, with the image of its file.
-fn opened_of<F: Files<File = File> + Clock>(
-    rt: &F,
-    alloc: Global,
-    opening: Opening<'_>,
-    list: &[Listed],
-) -> Result<Opened, Fault>
-    ensures parts { IfOk result (λ opened. ArePartsOf opening.entry.serial (listed_meters list.now) opened.parts.items) }
-    ensures release { IfOk result (λ opened. opened.release ≡ opening.entry.release) }
-    ensures faults { IfErr result IsOfOpeningSetup }
-{
-    let parts = parts_of(alloc, opening.serial, list)?;
-    let image = bytes_of_file(
-        rt,
-        alloc,
-        opening.image,
-        Fault::ImageFault,
-        Fault::OpenRefused(BookError::ImageTooLong),
-    )?;
-    Ok(Opened {
-        parts,
-        release: opening.release,
-        image,
-        at: date(rt),
-    })
-}
-
 /// All bytes of a file, and one of these faults where it can't be read, or has more than 64 MiB.
-fn bytes_of_file<F: Files<File = File>>(
+pub(crate) fn bytes_of_file<F: Files<File = File>>(
     rt: &F,
     alloc: Global,
     path: &str,
@@ -528,70 +495,6 @@ fn bytes_of_file<F: Files<File = File>>(
     }
 }
 
-/// Cancels the campaign that is to be cancelled first, and opens those that are opened then. A fault of the book has the cause of its device.
-fn begin<W: Write>(
-    alloc: Global,
-    lines: &mut Lines<'_, W>,
-    kept: &mut KeptHead<FileDevice>,
-    opened: Option<Opened>,
-    options: &HeadOptions<'_>,
-) -> Result<(), Because<Fault>>
-    ensures begins { OnOk result (Begins options.now.cancel opened (head_of kept.old) (head_of kept.new)) }
-    ensures writer { lines.new.writer.ghost_name ≡ lines.old.writer.ghost_name }
-    ensures told { TellsChanges (head_of kept.old) (head_of kept.new) lines.old.lost lines.new.lost (W.contents lines.old.writer.now)
-        (W.contents lines.new.writer.now) }
-    ensures asked { (IsTrue (is_some opened) → IsTrue (is_some options.now.opening))
-        → IfErr result (λ b. IsAskedFor options.now b.error) }
-    ensures faults { IfErr result (λ b. IsOfLeading b.error) }
-{
-    match cancel_and_open(alloc, lines, kept, opened, options) {
-        Ok(()) => Ok(()),
-        Err(fault) => Err(of_book(Because::from(fault), kept.device())),
-    }
-}
-
-/// Cancels the campaign that is to be cancelled first, and opens those that are opened then.
-fn cancel_and_open<W: Write>(
-    alloc: Global,
-    lines: &mut Lines<'_, W>,
-    kept: &mut KeptHead<FileDevice>,
-    opened: Option<Opened>,
-    options: &HeadOptions<'_>,
-) -> Result<(), Fault>
-    ensures begins { OnOk result (Begins options.now.cancel opened (head_of kept.old) (head_of kept.new)) }
-    ensures writer { lines.new.writer.ghost_name ≡ lines.old.writer.ghost_name }
-    ensures told { TellsChanges (head_of kept.old) (head_of kept.new) lines.old.lost lines.new.lost (W.contents lines.old.writer.now)
-        (W.contents lines.new.writer.now) }
-    ensures asked { (IsTrue (is_some opened) → IsTrue (is_some options.now.opening)) → IfErr result (IsAskedFor options.now) }
-    ensures faults { IfErr result IsOfLeading }
-{
-    cancel_first(alloc, lines, kept, options)?;
-    match opened {
-        Some(opened) => open_all(alloc, lines, kept, &opened),
-        None => Ok(()),
-    }
-}
-
-/// Cancels the campaign that is to be cancelled first, if one is.
-fn cancel_first<W: Write>(
-    alloc: Global,
-    lines: &mut Lines<'_, W>,
-    kept: &mut KeptHead<FileDevice>,
-    options: &HeadOptions<'_>,
-) -> Result<(), Fault>
-    ensures cancelled { OnOk result (head_of kept.new ≡ cancelled_first options.now.cancel (head_of kept.old)) }
-    ensures writer { lines.new.writer.ghost_name ≡ lines.old.writer.ghost_name }
-    ensures told { TellsChanges (head_of kept.old) (head_of kept.new) lines.old.lost lines.new.lost (W.contents lines.old.writer.now)
-        (W.contents lines.new.writer.now) }
-    ensures asked { OnErr result (IsTrue (is_some options.now.cancel)) }
-    ensures faults { IfErr result IsOfCancelling }
-{
-    match options.cancel {
-        Some(serial) => cancel_one(alloc, lines, kept, serial),
-        None => Ok(()),
-    }
-}
-
 /// Cancels the campaign of this serial number, and writes its line once that is on the device.
 pub(crate) fn cancel_one<W: Write>(
     alloc: Global,
@@ -603,6 +506,11 @@ pub(crate) fn cancel_one<W: Write>(
     ensures writer { lines.new.writer.ghost_name ≡ lines.old.writer.ghost_name }
     ensures told { TellsChanges (head_of kept.old) (head_of kept.new) lines.old.lost lines.new.lost (W.contents lines.old.writer.now)
         (W.contents lines.new.writer.now) }
+    ensures line { OnOk result (Told (cancelled_line (campaign_at (head_of kept.old) serial) ∷ []) lines.old.lost lines.new.lost
+        (W.contents lines.old.writer.now) (W.contents lines.new.writer.now)) }
+    ensures same { OnErr result (head_of kept.new ≡ head_of kept.old) }
+    ensures untold { OnErr result ((lines.new.lost ≡ lines.old.lost) × (W.contents lines.new.writer.now ≡ W.contents lines.old.writer.now)) }
+    ensures refused { 1 ≤ serial → IfErr result (IsCancelFault (cancel_refusal (book_of kept.old) (campaign_at (head_of kept.old) serial))) }
     ensures faults { IfErr result IsOfCancelling }
 {
     let campaign = CampaignId::new(kept.head().view().book.head(), serial);
@@ -611,74 +519,6 @@ pub(crate) fn cancel_one<W: Write>(
         unreachable!();
     };
     lines.tell_cancelled(campaign);
-    Ok(())
-}
-
-/// Opens the campaigns that the book lacks, once it is known that it takes each of them, and writes a line for each.
-fn open_all<W: Write>(
-    alloc: Global,
-    lines: &mut Lines<'_, W>,
-    kept: &mut KeptHead<FileDevice>,
-    opened: &Opened,
-) -> Result<(), Fault>
-    ensures opened { OnOk result (OpensParts opened.now.release opened.now.image.items opened.now.parts.items (head_of kept.old) (head_of kept.new)) }
-    ensures writer { lines.new.writer.ghost_name ≡ lines.old.writer.ghost_name }
-    ensures told { TellsChanges (head_of kept.old) (head_of kept.new) lines.old.lost lines.new.lost (W.contents lines.old.writer.now)
-        (W.contents lines.new.writer.now) }
-    ensures faults { IfErr result IsOfOpening }
-{
-    let Opened {
-        parts,
-        release,
-        image,
-        at,
-    } = opened;
-    check_parts(kept.head().view().book, parts, *release, image)?;
-    open_parts(alloc, lines, kept, parts, *release, image, *at)
-}
-
-/// Opens those of these campaigns that the book lacks, in their order.
-fn open_parts<W: Write>(
-    alloc: Global,
-    lines: &mut Lines<'_, W>,
-    kept: &mut KeptHead<FileDevice>,
-    parts: &[Part],
-    release: u32,
-    image: &[u8],
-    at: u64,
-) -> Result<(), Fault>
-    ensures opened { OnOk result (OpensParts release image.now parts.now (head_of kept.old) (head_of kept.new)) }
-    ensures writer { lines.new.writer.ghost_name ≡ lines.old.writer.ghost_name }
-    ensures told { TellsChanges (head_of kept.old) (head_of kept.new) lines.old.lost lines.new.lost (W.contents lines.old.writer.now)
-        (W.contents lines.new.writer.now) }
-    ensures faults { IfErr result IsOfOpening }
-{
-    for part in parts {
-        open_one(alloc, lines, kept, part, release, image, at)?;
-    }
-    Ok(())
-}
-
-/// Opens this campaign, if the book lacks it, and writes its line once that is on the device.
-fn open_one<W: Write>(
-    alloc: Global,
-    lines: &mut Lines<'_, W>,
-    kept: &mut KeptHead<FileDevice>,
-    part: &Part,
-    release: u32,
-    image: &[u8],
-    at: u64,
-) -> Result<(), Fault>
-    ensures opened { OnOk result ((name : Option Name) × OpensPart release image.now part.now (head_of kept.old) name (head_of kept.new)) }
-    ensures writer { lines.new.writer.ghost_name ≡ lines.old.writer.ghost_name }
-    ensures told { TellsChanges (head_of kept.old) (head_of kept.new) lines.old.lost lines.new.lost (W.contents lines.old.writer.now)
-        (W.contents lines.new.writer.now) }
-    ensures faults { IfErr result IsOfOpening }
-{
-    let Some(name) = open_missing(alloc, kept, part, release, image, at)? else {
-        return Ok(());
-    };
-    lines.tell_opened(name);
     Ok(())
 }
 
@@ -692,7 +532,7 @@ fn lead<R: Clock + Eprint + Wait, W: Write, D: JournalDevice + Drop>(
     port: RecordedPort<'_>,
     daemon: &mut HeadDaemon<D>,
     options: &HeadOptions<'_>,
-) -> Result<LedOut, Because<Fault>>
+) -> Result<(), Because<Fault>>
     // It waits for answers, and has as many datagrams out, as the options say.
     requires waits { timing_of daemon.old ≡ options.now.timing }
 
@@ -700,7 +540,6 @@ fn lead<R: Clock + Eprint + Wait, W: Write, D: JournalDevice + Drop>(
     requires links { IsHeadSealing options.now.sealing options.now.head (meters_of daemon.old) (links_in port.sealing) }
     ensures over { (now : Leader) → IsLed D.honest D.contents D.may_leave daemon.new now → OnOk result (IsOver now) }
     ensures ran_out { OnOk result (HasRunOut daemon.new) }
-    ensures ended { IfOk result (HasLedTo (counted_of daemon.new).failed) }
     ensures stays { OnOk result (options.now.stays ≡ false) }
     ensures asked { IfErr result (λ b. IsOfCapture b.error → IsTrue (is_some port.entry.capture)) }
     ensures keyed { IfErr result (λ b. IsKeyed options.now.sealing b.error) }
@@ -737,7 +576,7 @@ fn lead<R: Clock + Eprint + Wait, W: Write, D: JournalDevice + Drop>(
     }
     let counts = daemon.counts();
     lines.tell_over(counts);
-    Ok(LedOut::of(counts.failed))
+    Ok(())
 }
 
 /// Leads the rows of a head end without keys to their ends. If it doesn't, it returns why its port is closed too, if it is.

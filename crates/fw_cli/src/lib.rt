@@ -2,10 +2,13 @@
 #![tactic(auto)]
 
 mod answer;
+mod beginning;
 mod cancel;
 mod capture;
 mod capture_file;
 mod fleet;
+mod fleet_watch;
+mod give_up;
 mod going_on;
 mod head;
 mod judged;
@@ -26,6 +29,7 @@ mod workers;
 
 pub use answer::{AnswerOptions, run_answer};
 pub use cancel::{CancelFault, CancelOptions, run_cancel};
+pub use give_up::{GaveUp, GiveUpOptions, run_give_up};
 pub use head::{HeadOptions, LedOut, run_head};
 pub use keys::{KeysFailure, KeysOptions, run_keys};
 pub use live::{LiveOptions, run_live};

@@ -16,6 +16,7 @@ ghost use Rattle.fw_cli.specs.Telling.{TellsRounds, lack_of, lines_of, said_of};
 
 use crate::capture_file::{CaptureFile, closing, failure_of};
 use crate::fleet::serve_fleet;
+use crate::fleet_watch::FleetWatch;
 use crate::judged::Judge;
 use crate::sealing::{JudgedSealing, keyed_meter};
 use fw_daemon::{Dropped, MeterDaemon, Watch, serve};
@@ -131,7 +132,8 @@ impl From<Fault> for MeterFault {
 /// and counters that are there are opened. The file of the capture comes next, then a new one of counters, and new files of meters last.
 ///
 /// The writer gets the line `listening ..`, once datagrams are received, `activated ..` for each image that the meter switches to, and
-/// `dropped ..` where more was dropped, once a minute at most. Each is flushed. After the first, a line that can't be written is lost.
+/// `dropped ..` where more was dropped, once a minute at most. With a count it is `meter N activated ..`. Each is flushed. After the first, a
+/// line that can't be written is lost.
 ///
 /// # Errors
 ///
@@ -421,15 +423,15 @@ impl<'a, 'w, C: Clock, W: Write> Teller<'a, 'w, C, W> {
         }
     }
 
-    /// Reports the image that the meter switched to, where it did.
-    fn tell_switch(&mut self, activated: Option<ImageName>)
+    /// Reports the image that a meter switched to, where it did: of several meters, that of this number.
+    fn tell_switch(&mut self, number: Option<usize>, activated: Option<ImageName>)
         ensures lines { self.new.lines.ghost_name ≡ self.old.lines.ghost_name }
         ensures writer { self.new.lines.now.writer.ghost_name ≡ self.old.lines.now.writer.ghost_name }
-        ensures told { Told (lines_of (said_of activated)) self.old.lines.now.lost self.new.lines.now.lost (W.contents self.old.lines.now.writer.now)
-            (W.contents self.new.lines.now.writer.now) }
+        ensures told { Told (lines_of (said_of number activated)) self.old.lines.now.lost self.new.lines.now.lost
+            (W.contents self.old.lines.now.writer.now) (W.contents self.new.lines.now.writer.now) }
     {
         match activated {
-            Some(name) => self.lines.tell_activated(name),
+            Some(name) => self.lines.tell_activated(number, name),
             None => {}
         }
     }
@@ -460,12 +462,12 @@ impl<'a, 'w, C: Clock, W: Write> Teller<'a, 'w, C, W> {
 }
 
 impl<'a, 'w, C: Clock, W: Write> Watch for Teller<'a, 'w, C, W> {
-    ghost use Rattle.std.specs.Prelude.{◌≡◌};
-    ghost use Rattle.fw_cli.specs.Telling.{IsSaid};
+    ghost use Rattle.std.specs.Prelude.{◌≡◌, None};
+    ghost use Rattle.fw_cli.specs.Telling.{IsSaid, switches_by};
 
     ghost tells = { λ start names teller. (teller.lines.ghost_name ≡ start.lines.ghost_name)
         × (teller.lines.now.writer.ghost_name ≡ start.lines.now.writer.ghost_name)
-        × IsSaid names start.lines.now.lost teller.lines.now.lost (W.contents start.lines.now.writer.now)
+        × IsSaid (switches_by None names) start.lines.now.lost teller.lines.now.lost (W.contents start.lines.now.writer.now)
         (W.contents teller.lines.now.writer.now) };
 
     fn round(
@@ -475,7 +477,29 @@ impl<'a, 'w, C: Clock, W: Write> Watch for Teller<'a, 'w, C, W> {
         faults: u64,
         unopened: u64,
     ) {
-        self.tell_switch(activated);
+        self.tell_switch(None, activated);
+        self.tell_dropped(dropped, faults, unopened);
+    }
+}
+
+impl<'a, 'w, C: Clock, W: Write> FleetWatch for Teller<'a, 'w, C, W> {
+    ghost use Rattle.std.specs.Prelude.{◌≡◌};
+    ghost use Rattle.fw_cli.specs.Telling.{IsSaid};
+
+    ghost tells = { λ start switches teller. (teller.lines.ghost_name ≡ start.lines.ghost_name)
+        × (teller.lines.now.writer.ghost_name ≡ start.lines.now.writer.ghost_name)
+        × IsSaid switches start.lines.now.lost teller.lines.now.lost (W.contents start.lines.now.writer.now)
+        (W.contents teller.lines.now.writer.now) };
+
+    fn round_of(
+        &mut self,
+        number: usize,
+        activated: Option<ImageName>,
+        dropped: Dropped,
+        faults: u64,
+        unopened: u64,
+    ) {
+        self.tell_switch(Some(number), activated);
         self.tell_dropped(dropped, faults, unopened);
     }
 }

@@ -72,7 +72,8 @@ pub fn trace_links<F: Files<File = File>>(
 
 /// The reader has a capture (pcap). The writer gets a line for each datagram of it, in the order of the capture: its number, from 0 on, the
 /// address and port that it came from and went to, and what it says, in the words of a trace. It gets one for each note too, `start`,
-/// `turn` or `strangers ..`. Other packets are passed over.
+/// `turn` or `strangers ..`. Other packets are passed over. If times are asked for, a line begins with that of its record, as RFC 3339 has it, in
+/// UTC and with microseconds.
 ///
 /// What the other end of one of these links sealed is opened, and `sealed N` stands before what it says, with its invocation counter. What has
 /// the form of a sealing and opens under none of them is `sealed N unopened (K bytes)`. If there is a writer of captures, it gets the capture
@@ -93,15 +94,16 @@ pub fn trace_links<F: Files<File = File>>(
 pub fn run_trace<R: Read, W: Write, C: Write>(
     alloc: Global,
     links: &[Link],
+    times: bool,
     reader: &mut R,
     writer: &mut W,
     plain: &mut Option<C>,
 ) -> Result<(), Fault>
     // All of the capture is reported, or what stands before its first fault.
-    ensures ok { OnOk result (WritesTrace links.now None (R.remaining reader.old) (R.remaining reader.new)
+    ensures ok { OnOk result (WritesTrace times links.now None (R.remaining reader.old) (R.remaining reader.new)
         (W.contents writer.old) (W.contents writer.new) (option_map C.contents plain.old) (option_map C.contents plain.new)) }
     ensures bad_capture { (error : CaptureError) → result ≡ Err (Fault.BadCapture error)
-        → WritesTrace links.now (Some error) (R.remaining reader.old) (R.remaining reader.new)
+        → WritesTrace times links.now (Some error) (R.remaining reader.old) (R.remaining reader.new)
         (W.contents writer.old) (W.contents writer.new) (option_map C.contents plain.old) (option_map C.contents plain.new) }
 
     // How far the reading was.
@@ -115,7 +117,7 @@ pub fn run_trace<R: Read, W: Write, C: Write>(
 {
     let mut reads = Reads::none();
     let capture = read_input(alloc, reader, &mut reads)?;
-    let dissection = dissect(alloc, links, &capture)?;
+    let dissection = dissect(alloc, links, times, &capture)?;
     match write_plain(alloc, links, &capture, plain) {
         Ok(()) => {}
         Err(fault) => return Err(fault),

@@ -85,8 +85,6 @@ pub enum Fault {
     ForeignHead,
     /// A book has 2^60 bytes or more.
     Full,
-    /// The meter of this number has a live row, and the list has no address of it.
-    NoAddress(u32),
     /// The book refused to open a campaign.
     OpenRefused(BookError),
     /// The book refused to cancel a campaign.
@@ -126,7 +124,6 @@ impl fmt::Display for Fault {
             Fault::BadList(number) => write!(f, "BadList {number}"),
             Fault::BadBook(offset) => write!(f, "BadBook {offset}"),
             Fault::BadRecord(index) => write!(f, "BadRecord {index}"),
-            Fault::NoAddress(meter) => write!(f, "NoAddress {meter}"),
             Fault::BadKeys(number, cause) => write!(f, "BadKeys {number} {cause}"),
             Fault::NoKey(meter) => write!(f, "NoKey {meter}"),
             Fault::OpenRefused(refusal) | Fault::CancelRefused(refusal) => {

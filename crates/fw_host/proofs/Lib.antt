@@ -1,4 +1,3 @@
-mod Addressed
 pub mod Listings
 mod Taken
 mod Makings

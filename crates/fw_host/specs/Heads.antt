@@ -9,7 +9,7 @@ use Rattle.fw_rollout.specs.declared.daemon.Counts.{Counts}
 use Rattle.fw_rollout.specs.declared.ended.Ended.{Ended}
 use Rattle.fw_rollout.specs.Leading.{state_after}
 use Rattle.fw_faults.specs.declared.fault.Fault.{Fault}
-use Rattle.fw_faults.specs.declared.fault.Fault.TheVariants.{BadList, BadSetup, BookExists, BookFault, BadBook, BadKeys, BadRecord, CancelRefused, CaptureFault, CounterExists, CounterFault, CounterLocked, CounterSpent, ForeignCapture, ForeignHead, Full, ImageFault, KeysFault, KeysReadable, ListFault, Locked, NoAddress, NoBook, NoCounter, NoKey, OpenRefused, Output, OutOfMemory, Socket}
+use Rattle.fw_faults.specs.declared.fault.Fault.TheVariants.{BadList, BadSetup, BookExists, BookFault, BadBook, BadKeys, BadRecord, CancelRefused, CaptureFault, CounterExists, CounterFault, CounterLocked, CounterSpent, ForeignCapture, ForeignHead, Full, ImageFault, KeysFault, KeysReadable, ListFault, Locked, NoBook, NoCounter, NoKey, OpenRefused, Output, OutOfMemory, Socket}
 use Rattle.fw_report.specs.Failure.{why_words}
 use Rattle.fw_report.specs.Report.{state_word}
 
@@ -86,7 +86,6 @@ IsOfHeadSetup (BadList line) = Unit {0}
 IsOfHeadSetup ImageFault = Unit {0}
 IsOfHeadSetup BadSetup = Unit {0}
 IsOfHeadSetup Socket = Unit {0}
-IsOfHeadSetup (NoAddress meter) = Unit {0}
 IsOfHeadSetup (OpenRefused refusal) = Unit {0}
 IsOfHeadSetup (CancelRefused refusal) = Unit {0}
 IsOfHeadSetup BookExists = Unit {0}
@@ -122,7 +121,6 @@ ComesBeforeLines (BadBook offset) = Unit {0}
 ComesBeforeLines (BadRecord index) = Unit {0}
 ComesBeforeLines ForeignHead = Unit {0}
 ComesBeforeLines ForeignCapture = Unit {0}
-ComesBeforeLines (NoAddress meter) = Unit {0}
 ComesBeforeLines KeysFault = Unit {0}
 ComesBeforeLines KeysReadable = Unit {0}
 ComesBeforeLines (BadKeys line why) = Unit {0}

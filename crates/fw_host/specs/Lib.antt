@@ -4,7 +4,6 @@ pub mod Meters
 pub mod Lists
 pub mod Heads
 pub mod Openings
-pub mod Addresses
 pub mod Clocks
 pub mod Strangers
 pub mod Captures

@@ -1,5 +1,5 @@
 -- Public vocabulary: the command `meter`: the lines that it prints, the faults of its set-up, and the meter that it makes.
-use Rattle.std.specs.Prelude.{ℕ, ◌==◌, if◌then◌else◌, List, ◌++◌, codes, decimal}
+use Rattle.std.specs.Prelude.{ℕ, ◌==◌, if◌then◌else◌, List, [], ◌++◌, Option, None, Some, codes, decimal}
 use Rattle.std.specs.declared.net.socket_addr.SocketAddr.{SocketAddr}
 use Rattle.std.specs.Net.Text.{socket_text}
 use Rattle.hex.specs.Hex.{encode_lower}
@@ -12,11 +12,20 @@ use Rattle.fw_faults.specs.declared.fault.Fault.TheVariants.{BadSetup, StoreFaul
 abbrev pub listening_line : SocketAddr → List ℕ
 listening_line at = codes "listening " ++ (socket_text at ++ codes "\n")
 
--- the image that the meter switched to: its campaign's head end and serial number, its release, and the digits of its digest in lower case
-abbrev pub activated_line : Name → List ℕ
-activated_line name =
-    codes "activated " ++ (decimal name.campaign.head ++ (codes " " ++ (decimal name.campaign.serial ++ (codes " " ++ (decimal name.release
-    ++ (codes " " ++ (encode_lower name.digest ++ codes "\n")))))))
+-- which meter a line is of, where a process has several
+abbrev pub meter_start : Option ℕ → List ℕ
+meter_start None = []
+meter_start (Some number) = codes "meter " ++ (decimal number ++ codes " ")
+
+-- the image that a meter switched to: its campaign's head end and serial number, its release, and the digits of its digest in lower case
+abbrev pub switched_to : Name → List ℕ
+switched_to name =
+    codes "activated " ++ (decimal name.campaign.head ++ (codes " " ++ (decimal name.campaign.serial ++ (codes " " ++ (decimal name.release ++ (codes " "
+    ++ (encode_lower name.digest ++ codes "\n")))))))
+
+-- the line of a switch, of several meters with the number of the one that switched
+abbrev pub activated_line : Option ℕ → Name → List ℕ
+activated_line number name = meter_start number ++ switched_to name
 
 -- the end of a line: how many datagrams didn't open, if any
 abbrev pub unopened_end : ℕ → List ℕ

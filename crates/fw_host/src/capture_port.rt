@@ -1,6 +1,6 @@
 //! A port with a capture of what it receives and sends.
 
-ghost use Rattle.std.specs.Prelude.{◌≡◌, ◌≤◌, ◌∷◌, IfOk, IfSome, IsErr, IsTrue, MatchBool, MatchOption, false, true, length, take};
+ghost use Rattle.std.specs.Prelude.{◌≡◌, ◌≤◌, ◌∷◌, IfOk, IfSome, IsErr, IsTrue, MatchBool, MatchOption, false, true, is_some, length, take};
 ghost use Rattle.fw_capture.specs.View.{datagram, endpoint_of};
 ghost use Rattle.fw_host.specs.Captures.{CapturesArrival, CapturesNoted};
 ghost use Rattle.fw_port.specs.Acts.{came, quiet, sent};
@@ -22,6 +22,8 @@ use std::rt::Clock;
 pub struct CapturePort<'a, C: Clock, S: Sink + Drop, P: PortBelow = UdpPort> {
     port: &'a mut P,
     recorder: Recorder<'a, C, S>,
+    /// Whether the last receive brought a datagram.
+    has_heard: bool,
 }
 
 impl<'a, C: Clock, S: Sink + Drop, P: PortBelow> CapturePort<'a, C, S, P> {
@@ -40,10 +42,12 @@ impl<'a, C: Clock, S: Sink + Drop, P: PortBelow> CapturePort<'a, C, S, P> {
         ensures known { result.recorder.strangers.now ≡ strangers.old }
         ensures turns { result.recorder.has_turns ≡ false }
         ensures open { result.recorder.failed ≡ false }
+        ensures unheard { result.has_heard ≡ false }
     {
         CapturePort {
             port,
             recorder: Recorder::new(rt, alloc, at, strangers, sink, false),
+            has_heard: false,
         }
     }
 
@@ -62,10 +66,12 @@ impl<'a, C: Clock, S: Sink + Drop, P: PortBelow> CapturePort<'a, C, S, P> {
         ensures known { result.recorder.strangers.now ≡ strangers.old }
         ensures turns { result.recorder.has_turns ≡ true }
         ensures open { result.recorder.failed ≡ false }
+        ensures unheard { result.has_heard ≡ false }
     {
         CapturePort {
             port,
             recorder: Recorder::new(rt, alloc, at, strangers, sink, true),
+            has_heard: false,
         }
     }
 
@@ -74,6 +80,13 @@ impl<'a, C: Clock, S: Sink + Drop, P: PortBelow> CapturePort<'a, C, S, P> {
         ensures { result ≡ self.now.recorder.failed }
     {
         self.recorder.has_failed()
+    }
+
+    /// Whether the last receive brought a datagram, from whatever address.
+    pub fn has_heard(&self) -> bool
+        ensures { result ≡ self.now.has_heard }
+    {
+        self.has_heard
     }
 
     /// How often the port below failed.
@@ -93,12 +106,15 @@ impl<'a, C: Clock, S: Sink + Drop, P: PortBelow> CapturePort<'a, C, S, P> {
         ensures below { IsTrue (P.honest self.old.port.now) → IfOk result (λ r. MatchOption r
             (P.acts self.new.port.now ≡ quiet ∷ P.acts self.old.port.now)
             (λ a. P.acts self.new.port.now ≡ came a.from (take a.count buffer.new) ∷ P.acts self.old.port.now)) }
+        ensures heard { IfOk result (λ came. self.new.has_heard ≡ is_some came) }
         ensures closed { self.old.recorder.failed ≡ true → IsErr result }
     {
+        self.has_heard = false;
         if self.recorder.has_failed() {
             return Err(Closed);
         }
         let came = self.port.receive(patience, buffer)?;
+        self.has_heard = came.is_some();
         self.recorder.put_arrival(patience, came, buffer)?;
         Ok(came)
     }

@@ -10,7 +10,6 @@ mod counter_file;
 mod datagram_port;
 mod dating;
 mod files;
-mod head_addresses;
 mod head_book;
 mod head_dropped;
 mod head_lines;
@@ -35,12 +34,11 @@ pub use capture_port::CapturePort;
 pub use counter_file::{check_no_counter, kept_counters};
 pub use datagram_port::{ClosedBy, DatagramPort};
 pub use dating::date;
-pub use head_addresses::check_addresses;
 pub use head_book::{BookOptions, kept_head};
 pub use head_lines::untaken_line;
 pub use head_new_book::check_absent;
 pub use head_opening::{
-    Opening, Part, cancel, check_cancel, check_parts, is_open, open_missing, open_part, parts_of,
+    Opening, cancel, cancels_of, check_cancel, check_parts, listed_meters, open_part, parts_of,
 };
 pub use head_port::UdpHeadPort;
 pub use head_progress::{HeadProgress, ProgressOutput};

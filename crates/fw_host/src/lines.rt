@@ -75,7 +75,7 @@ impl<'a, W: Write> Lines<'a, W> {
     }
 
     /// The line of a row that ended.
-    pub(crate) fn tell_ended(&mut self, ended: Ended)
+    pub fn tell_ended(&mut self, ended: Ended)
         ensures writer { self.new.writer.ghost_name ≡ self.old.writer.ghost_name }
         ensures told { Told (ended_line ended ∷ []) self.old.lost self.new.lost (W.contents self.old.writer.now) (W.contents self.new.writer.now) }
     {
@@ -92,12 +92,13 @@ impl<'a, W: Write> Lines<'a, W> {
         self.tell(line);
     }
 
-    /// The line of an image that a meter switched to.
-    pub fn tell_activated(&mut self, name: ImageName)
+    /// The line of an image that a meter switched to, of several the one of this number.
+    pub fn tell_activated(&mut self, number: Option<usize>, name: ImageName)
         ensures writer { self.new.writer.ghost_name ≡ self.old.writer.ghost_name }
-        ensures told { Told (activated_line name ∷ []) self.old.lost self.new.lost (W.contents self.old.writer.now) (W.contents self.new.writer.now) }
+        ensures told { Told (activated_line number name ∷ []) self.old.lost self.new.lost (W.contents self.old.writer.now)
+            (W.contents self.new.writer.now) }
     {
-        let line = activated_line(self.alloc, name);
+        let line = activated_line(self.alloc, number, name);
         self.tell(line);
     }
 

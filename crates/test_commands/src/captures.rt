@@ -98,7 +98,7 @@ fn told(rt: &HostRuntime, alloc: Global, what: &str) -> Result<String, Fail> {
     };
     other.send_to(&hex::decode(alloc, GET)?, ends.port)?;
     let capture = capture(rt, alloc, &mut port, ends, what)?;
-    let text = dissect(alloc, &[], &capture)?.text;
+    let text = dissect(alloc, &[], false, &capture)?.text;
     let here = format!(in alloc; "{}", ends.port)?;
     let there = format!(in alloc; "{}", ends.other)?;
     let text = text.as_str().replace(alloc, here.as_str(), "here")?;

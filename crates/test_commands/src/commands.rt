@@ -118,7 +118,7 @@ fn run<T: Threads + Wait + Net + Sync, R: Read, W: Write>(
 /// `trace` without keys.
 fn trace<R: Read, W: Write>(alloc: Global, reader: &mut R, writer: &mut W) -> Result<(), Fault> {
     let plain: &mut Option<&mut [u8]> = &mut None;
-    run_trace(alloc, &[], reader, writer, plain)
+    run_trace(alloc, &[], false, reader, writer, plain)
 }
 
 fn replay<R: Read, W: Write>(
@@ -442,7 +442,6 @@ const FAULTS: &[(Fault, &str)] = &[
     (Fault::BadRecord(2), "BadRecord 2"),
     (Fault::ForeignHead, "ForeignHead"),
     (Fault::Full, "Full"),
-    (Fault::NoAddress(5), "NoAddress 5"),
     (Fault::KeysFault, "KeysFault"),
     (Fault::KeysReadable, "KeysReadable"),
     (Fault::BadKeys(2, BadLine::KeyTwice), "BadKeys 2 KeyTwice"),

@@ -127,7 +127,7 @@ fn head_of<'paths, R: Files<File = File> + Clock + Net + Wait + Eprint>(
         },
         meters: list,
         listen: "127.0.0.1:0".parse::<SocketAddr>()?,
-        cancel: None,
+        cancel: Vec::new(alloc),
         opening: Some(Opening {
             serial: 1,
             release: 0,

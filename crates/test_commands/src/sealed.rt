@@ -25,14 +25,14 @@ const TOLD: &str = "
     000100010001001ccc1a30fffffffe390dd06ecb59b1f7215dd9d844ec25b9c097042743 => sealed 4294967294 get 64 | get 64 | sealed 4294967294 unopened (36 bytes)
     0001000100010022c882001e30000000009243964d138b8606bec8a6f9e9da6f79255289ac33c8ec7f3a => sealed 0 get block size | get block size | sealed 0 unopened (42 bytes)
     0001001000010020c81e30000000009243964d138b8606bec8a6f9e9da6f79255289ac33c8ec7f3a => sealed 0 get block size | get block size | sealed 0 unopened (40 bytes)
-    0001000100010015c813300000000759ffefa581203b6a57e71899997c => sealed 7 ? (10 bytes) | ? (10 bytes) | sealed 7 unopened (29 bytes)
+    0001000100010015c813300000000759ffefa581203b6a57e71899997c => sealed 7 ? (10 bytes), APDU UnsupportedForm | ? (10 bytes), APDU UnsupportedForm | sealed 7 unopened (29 bytes)
     0001000100010020c81e30000000009243964d138b8606bec8a6f9e9da6f79255289ac33c8ec7f3b => sealed 0 unopened (40 bytes) | sealed 0 unopened (40 bytes) | sealed 0 unopened (40 bytes)
     0001000100010020c81e30000000019243964d138b8606bec8a6f9e9da6f79255289ac33c8ec7f3a => sealed 1 unopened (40 bytes) | sealed 1 unopened (40 bytes) | sealed 1 unopened (40 bytes)
     0001000100010020c81e3000000003b97df9787316eced35be36b0a415c5fbdaa6b79c139a44b1f6 => sealed 3 unopened (40 bytes) | sealed 3 unopened (40 bytes) | sealed 3 unopened (40 bytes)
     0001000100010020c91e30000000009243964d138b8606bec8a6f9e9da6f79255289ac33c8ec7f3a => sealed 0 unopened (40 bytes) | sealed 0 unopened (40 bytes) | sealed 0 unopened (40 bytes)
     000100010001000dc001c1001200002c0000ff0200 => get block size | get block size | get block size
-    00 => ? (1 bytes) | ? (1 bytes) | ? (1 bytes)
-    0001000100010020c81e30000000009243964d138b8606bec8a6f9e9da6f79255289ac33c8ec7f => ? (39 bytes) | ? (39 bytes) | ? (39 bytes)
+    00 => ? (1 bytes), wrapper Short | ? (1 bytes), wrapper Short | ? (1 bytes), wrapper Short
+    0001000100010020c81e30000000009243964d138b8606bec8a6f9e9da6f79255289ac33c8ec7f => ? (39 bytes), wrapper Length | ? (39 bytes), wrapper Length | ? (39 bytes), wrapper Length
 ";
 
 /// The capture of one datagram.
@@ -54,7 +54,7 @@ fn capture_of(alloc: Global, datagram: &str) -> Result<Vec<u8>, Fail> {
 
 /// What a capture tells of its one datagram to who has these links.
 fn words(alloc: Global, links: &[Link], capture: &[u8]) -> Result<String, Fail> {
-    let text = dissect(alloc, links, capture)?.text;
+    let text = dissect(alloc, links, false, capture)?.text;
     let words = text.as_str().replace(alloc, LINE, "")?;
     Ok(words.as_str().trim().to_string(alloc)?)
 }

@@ -1,7 +1,7 @@
 //! The command `cancel`, and its help.
 
 use super::manual::{CommandOption, Manual, Presence, Takes};
-use super::{Invocation, WrongValue, manual};
+use super::{Invocation, WrongValue, manual, serials};
 use clap::{ArgMatches, Command};
 use fw_cli::CancelOptions;
 use fw_names::HeadId;
@@ -14,24 +14,28 @@ led no further, and a meter that has the image may switch to it all the same.
 
 The head end may not run meanwhile. FILE is made anew and kept as `head` does it.
 
+SERIALS are numbers and ranges of them with commas between, as 7,9-12. A number is that of a campaign that
+has a live row. A range is all such campaigns in it, and may have none. They are cancelled in the order
+given, each once: where one is refused, those before it are cancelled.
+
 Standard output gets a line for each campaign, at once, and one that can't be written is lost:
 
   cancelled HEAD SERIAL                  this campaign was cancelled, and the disk has that
 
-Example, two campaigns of the head end of `head --help`:
+Example, the campaign of the head end of `head --help`, and whatever is live of ten others:
 
-  ./dlmsfw cancel --head 7 --book head.book --campaign 1 --campaign 2";
+  ./dlmsfw cancel --head 7 --book head.book --campaign 1,11-20";
 
 /// What ends the long help.
 const ENDINGS: &str = "\
 Exit status:
-  0  each campaign was cancelled
+  0  each campaign that is named was cancelled
   1  a fault: standard error has `dlmsfw: NAME`, with one of these names, and a second line with the
      option that it is about, as of `head`. The campaigns with a line were cancelled
        NoSuchCampaign  the book has no such campaign
        NotLive         none of its rows is live
        NoBook          FILE isn't there
-       Locked          a head end has FILE
+       Locked          another process has FILE, as a head end that runs
        BookFault       FILE can't be opened, read or written; `head --help` has the causes
        BadBook N       the bytes of FILE from offset N on are no book's: they were changed
        BadRecord N     record N of FILE, counted from 0, has no place in a book
@@ -59,9 +63,9 @@ const MANUAL: &Manual = &Manual {
         },
         CommandOption {
             name: "campaign",
-            takes: Takes::Texts("SERIAL"),
+            takes: Takes::Texts("SERIALS"),
             presence: Presence::Required,
-            help: "The serial number of a campaign, 1 to 4294967295, once for each",
+            help: "The serial numbers of campaigns, 1 to 4294967295, and ranges, as 7,9-12; once for each list of them",
         },
     ],
 };
@@ -79,29 +83,18 @@ pub(super) fn invoked<'a>(
     let (Some(head), Some(book)) = (head_of(given), given.get_str("book")) else {
         return Ok(None);
     };
-    let mut serials = Vec::new(alloc);
+    let mut campaigns = Vec::new(alloc);
     for text in given.get_strs("campaign").unwrap_or(&[]) {
-        serials.push(serial(*text)?)?;
+        serials::push_campaigns(&mut campaigns, "campaign", *text)?;
     }
     Ok(Some(Invocation::Cancel(CancelOptions {
         head,
         book,
-        serials,
+        campaigns,
     })))
 }
 
 /// The head end.
 fn head_of<'a>(given: &ArgMatches<'a>) -> Option<HeadId> {
     HeadId::new(given.get_one("head")?)
-}
-
-/// The serial number that the value of --campaign is.
-fn serial<'a>(text: &'a str) -> Result<u32, WrongValue<'a>> {
-    match text.parse::<u32>() {
-        Ok(serial) if serial > 0 => Ok(serial),
-        _ => Err(WrongValue::NoSerial {
-            option: "campaign",
-            text,
-        }),
-    }
 }

@@ -2,14 +2,15 @@
 
 use super::manual::{CommandOption, Manual, Presence, Takes};
 use super::{
-    DAEMON_CAPTURE, DAEMON_CAPTURE_STRANGERS, Invocation, KEYS, NEW_COUNTER, STRICT, WrongValue,
-    address, manual, sealing_of,
+    DAEMON_CAPTURE, DAEMON_CAPTURE_STRANGERS, HeadShown, Invocation, KEYS, NEW_COUNTER, STRICT,
+    WrongValue, address, manual, sealing_of, serials,
 };
 use clap::{ArgMatches, Command};
 use fw_blocks::Width;
 use fw_cli::HeadOptions;
 use fw_host::{BookOptions, Opening};
 use fw_names::HeadId;
+use fw_plan::SerialRange;
 use fw_rollout::Timing;
 use std::alloc::{AllocError, Global};
 
@@ -40,10 +41,15 @@ behind a byte that turned on the disk. They are kept in FILE.dropped before they
 FILE.dropped.2 and so on where a file has that name, and standard error says so:
 `N records behind a shut gate were not taken; they are kept in FILE.dropped`.
 
-With --open the image in the file of --image is offered to all meters of LIST, in campaigns of 256
-meters at most, with serial numbers from SERIAL on. A campaign that the book has already, of that release
-and image and for those meters in that order, is gone on with. With --cancel the live rows of that
-campaign are cancelled first.
+With --open the image in the file of --image is offered to the meters of LIST, in campaigns of 256 meters
+at most, under the next serial numbers from SERIAL on that are free. A meter that has a row in a campaign
+of the book from SERIAL on, of that release and image, gets no other, however that row ended. So --open may
+stay there when LIST changes: new meters are offered the image, and the order of the lines doesn't matter.
+With --cancel the live rows of these campaigns are cancelled first: those of serial numbers, and of ranges
+those in it that have live rows, as in `--cancel 7,9-12`.
+
+A live row whose meter isn't in LIST isn't led, and standard error says so:
+`campaign HEAD SERIAL: meter N isn't in the list, and isn't led`.
 
 With --keys KEYS all that is sent is sealed, and what is taken was sealed by the meter that it is taken
 for, as `meter --help` says it. A line of KEYS is that of a link with a meter: its number, its system title
@@ -123,7 +129,7 @@ Exit status:
                        KEYS, or holds no numbers: its bytes were changed. Or it can't be written later,
                        without a cause
        CounterSpent    all 4294967295 numbers are used: the head end and its meters need new keys
-       BadSetup        the campaigns need serial numbers above 4294967295
+       BadSetup        the campaigns need serial numbers above 4294967295, or too few are free up to there
        Socket          datagrams can't be received at --listen: it is in use, this machine has no such
                        address, or this user has no right to it. Or the socket failed 1000 times in a
                        row later, or the system told no time, without a cause
@@ -139,14 +145,11 @@ Exit status:
        BadRecord N     record N of FILE, counted from 0, has no place in a book
        ForeignHead     FILE is the book of another head end than that of --head
        Full            FILE has no room for more
-       NoAddress N     meter N has a live row in the book that isn't cancelled, and isn't in LIST
        NoMeters        --open: LIST has no meter
-       SerialUsed      --open: the book has this campaign, of another release or image, for other meters,
-                       or for these in another order
        EmptyImage      --open: the image has no byte
        ImageTooLong    --open: the image has more than 16777216 bytes
        MeterBusy       --open: a meter of LIST is live in another campaign
-       NoSuchCampaign  --cancel: the book has no such campaign
+       NoSuchCampaign  --cancel: the book has no campaign of a serial number that is given
        NotLive         --cancel: none of its rows is live
        CaptureFault    CAPTURE can't be made, opened or written; `meter --help` has the causes
        ForeignCapture  CAPTURE is there, and isn't a capture that a meter or a head end began, or a
@@ -155,7 +158,8 @@ Exit status:
        OutOfMemory     the system gives no more memory
      Of a row whose end the disk doesn't have nothing was printed.
   2  a wrong command line: standard error says what is wrong
-  4  no row is live, and in this run a row failed, as its line says";
+  4  no row is live, and in this run a row failed, as its line says
+  5  some rows are live whose meters aren't in LIST, as standard error said, and no other row is";
 
 /// The command and its options.
 const MANUAL: &Manual = &Manual {
@@ -231,7 +235,7 @@ const MANUAL: &Manual = &Manual {
             name: "open",
             takes: Takes::Within("SERIAL", 1, u32::MAX),
             presence: Presence::With("image"),
-            help: "Opens campaigns for all meters, with serial numbers from this one on, 1 to 4294967295",
+            help: "Opens campaigns for the meters without one, with serial numbers from this one on, 1 to 4294967295",
         },
         CommandOption {
             name: "release",
@@ -247,9 +251,9 @@ const MANUAL: &Manual = &Manual {
         },
         CommandOption {
             name: "cancel",
-            takes: Takes::Within("SERIAL", 1, u32::MAX),
+            takes: Takes::Text("SERIALS"),
             presence: Presence::Optional,
-            help: "Cancels the live rows of this campaign first",
+            help: "Cancels the live rows of these campaigns first, as 7,9-12",
         },
     ],
 };
@@ -262,6 +266,7 @@ pub(super) fn command<'a>(alloc: Global) -> Result<Command<'a>, AllocError> {
 /// The command with the options that were given. The parser lets only those numbers pass that a head end, a campaign or a width can have, and
 /// none of the others lack.
 pub(super) fn invoked<'a>(
+    alloc: Global,
     given: &ArgMatches<'a>,
 ) -> Result<Option<Invocation<'a>>, WrongValue<'a>> {
     let Some(listen) = given.get_str("listen") else {
@@ -287,7 +292,7 @@ pub(super) fn invoked<'a>(
         },
         meters,
         listen,
-        cancel: given.get_one("cancel"),
+        cancel: cancelled(alloc, given)?,
         opening: opening_of(given),
         width,
         timing,
@@ -296,7 +301,22 @@ pub(super) fn invoked<'a>(
         captures_strangers: given.get_flag("capture-strangers"),
         sealing: sealing_of(given),
     };
-    Ok(Some(Invocation::Head(options, every)))
+    let shown = HeadShown {
+        every,
+        cancel: given.get_str("cancel"),
+    };
+    Ok(Some(Invocation::Head(options, shown)))
+}
+
+/// The campaigns that are cancelled first.
+fn cancelled<'a>(
+    alloc: Global,
+    given: &ArgMatches<'a>,
+) -> Result<Vec<SerialRange>, WrongValue<'a>> {
+    match given.get_str("cancel") {
+        Some(text) => serials::campaigns(alloc, "cancel", text),
+        None => Ok(Vec::new(alloc)),
+    }
 }
 
 /// The head end.

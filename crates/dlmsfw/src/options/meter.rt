@@ -66,7 +66,8 @@ the first:
   listening ADDR:PORT                          datagrams are received there
   activated HEAD SERIAL RELEASE DIGEST         the meter switched to this image: the head end and the
                                                serial number of its campaign, its release, and its
-                                               SHA-256 in lower-case hexadecimal
+                                               SHA-256 in lower-case hexadecimal; with --count it begins
+                                               with `meter K`
   dropped strangers S unserved U faults F      where these grew, once a minute at most: the datagrams
                                                from addresses that may not ask, those for which memory
                                                was refused, and how often the socket failed, since the

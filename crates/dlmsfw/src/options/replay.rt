@@ -87,10 +87,11 @@ Of `rows` each is {\"campaign\":S,\"head\":H,\"meter\":M,\"state\":\"done\"}, of
 With --trace a line for each datagram that was sent stands before the report: its number, who sent it to
 whom, and what it says. A head end says `get ATTRIBUTE`, `enable`, `initiate campaign H S (N bytes)`,
 `block K (N bytes)`, `verify` or `activate`. A meter says `get VALUE`, in short, or `get code C`, `set C`
-or `action C`. `? (N bytes)` is what can't be read. Where a name has a release, ` release R` stands after
-`campaign H S`. Where a meter refuses an initiate, the code is followed by the reason, and at the end of a
-line stands what the network did, unless the datagram came once and in order: `lost`, `twice` or `N times`,
-`late` where one that was sent after it came before it, and `stopped` where the meter stopped in it.
+or `action C`. `? (N bytes), FAULT` is what can't be read. Where a name has a release, ` release R` stands
+after `campaign H S`. Where a meter refuses an initiate, the code is followed by the reason, and at the end
+of a line stands what the network did, unless the datagram came once and in order: `lost`, `twice` or
+`N times`, `late` where one that was sent after it came before it, and `stopped` where the meter stopped
+in it.
 
   0 head 7 -> meter 1  get block size  twice
   1 meter 1 -> head 7  get 2

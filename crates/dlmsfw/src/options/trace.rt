@@ -17,10 +17,16 @@ one, and `editcap -F pcap` makes one of a file in the form pcapng.
 
 Standard output gets `N FROM -> TO  WORDS` for each datagram: its number, from 0 on, the addresses
 and ports that it came from and went to, and what it says. A request is for a meter, and anything
-else for a head end. `? (N bytes)` is one that can't be read. A note of dlmsfw has a line too: `start`
-where its process started, `turn` where a meter took a turn of a verification, or `strangers N`: so many
-datagrams came from strangers since the packet before, and aren't there. Other packets are passed over:
-fragments, and those that aren't UDP over IP. All input is read before anything is written.
+else for a head end. One for what no meter of dlmsfw has is told by class, instance and attribute, as
+`get class 3 1-0:1.8.0.255 attribute 2`, and so is one with a parameter of another shape. One that can't
+be read is `? (N bytes), FAULT`: its leftmost fault, of the wrapper, of the APDU or of a Data in it, as
+`APDU Truncated`. A note of dlmsfw has a line too: `start` where its process started, `turn` where a
+meter took a turn of a verification, or `strangers N`: so many datagrams came from strangers since the
+packet before, and aren't there. Other packets are passed over: fragments, and those that aren't UDP
+over IP. All input is read before anything is written.
+
+With --times each line begins with the time of its packet, as `2026-11-30T08:22:12.000007Z`: RFC 3339, in
+UTC and with microseconds. `tshark -t ud` shows the same times.
 
 `sealed N unopened (K bytes)` is a datagram in the form of what is sealed, with its invocation counter N.
 With --keys and --head what either end of a link in KEYS sealed is opened, and `sealed N` stands before
@@ -34,6 +40,7 @@ owner may read it. Packets that have no line aren't there.
 Examples:
 
   ./dlmsfw trace examples/transfer.pcap
+  ./dlmsfw trace --times examples/transfer.pcap
   ./dlmsfw trace --keys head.keys --head 7 --plain plain.pcap sealed.pcap";
 
 /// What ends the long help.
@@ -54,8 +61,8 @@ Exit status:
                           what stands before it was told
        Output             standard output can't be written, as on a full disk
        OutOfMemory        the system gives no more memory; nothing was written
-     F is ShortHeader, BadMagic, BadVersion, UnknownLink, ShortRecord, BadFraction, CutPacket, ShortLink,
-     BadIpVersion, ShortIp, BadIpHeader, BadIpLength or BadUdpLength.
+     F is ShortHeader, Pcapng, BadMagic, BadVersion, UnknownLink, ShortRecord, BadFraction, CutPacket,
+     ShortLink, BadIpVersion, ShortIp, BadIpHeader, BadIpLength or BadUdpLength.
   2  a wrong command line: standard error says what is wrong";
 
 /// The command and its options.
@@ -68,6 +75,12 @@ const MANUAL: &Manual = &Manual {
             takes: Takes::Argument("CAPTURE"),
             presence: Presence::Optional,
             help: "The file that has the capture; standard input if left out",
+        },
+        CommandOption {
+            name: "times",
+            takes: Takes::Nothing,
+            presence: Presence::Optional,
+            help: "Begins each line with the time of its packet, in UTC",
         },
         CommandOption {
             name: "keys",
@@ -100,6 +113,8 @@ pub(super) fn command<'a>(alloc: Global) -> Result<Command<'a>, AllocError> {
 pub(crate) struct TraceOptions<'a> {
     /// The file that has the capture; where it lacks, standard input has it.
     pub(crate) capture: Option<&'a str>,
+    /// Whether a line begins with a time.
+    pub(crate) times: bool,
     /// The key file, if one is given, with the number of its head end.
     pub(crate) keys: Option<&'a str>,
     pub(crate) head: Option<HeadId>,
@@ -111,6 +126,7 @@ pub(crate) struct TraceOptions<'a> {
 pub(super) fn options<'a>(given: &ArgMatches<'a>) -> TraceOptions<'a> {
     TraceOptions {
         capture: given.get_str("capture"),
+        times: given.get_flag("times"),
         keys: given.get_str("keys"),
         head: head_of(given),
         plain: given.get_str("plain"),

@@ -8,11 +8,11 @@ use Rattle.fw_cli.proofs.Begun.{opening_none, opening_some}
 use Rattle.fw_cli.proofs.head.asked_of.Goals as goal
 
 pub returns-in_default-clause-opening : goal.returns-in_default-clause-opening
-returns-in_default-clause-opening g c = opening_none c.args.options.now.opening _ c.in_default.is
+returns-in_default-clause-opening g c = opening_none c.args.options.now.opening c.in_default.is
 
 pub returns-clause-opening : goal.returns-clause-opening
 returns-clause-opening g c =
-    opening_some c.args.options.now.opening c.in-Some.opening _ _ _ c.in-Some.is c.meters.ensures.meters c.in_ok-opened.ensures.release c.in_ok-opened.ensures.parts
+    opening_some c.args.options.now.opening c.in-Some.opening _ c.in-Some.is c.in_ok-opened.ensures.opened
 
 pub returns-in_err-list-clause-asked : goal.returns-in_err-list-clause-asked
 returns-in_err-list-clause-asked g c =

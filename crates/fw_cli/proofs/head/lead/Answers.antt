@@ -9,7 +9,6 @@ returns-in-Err g c =
     record {
       over = λ now led. tt;
       ran_out = tt;
-      ended = tt;
       stays = tt;
       asked = λ captures. absurd (stop_is_no_capture c.in-Err.stop _ is captures);
       keyed = stop_keyed c.args.options.now.sealing c.in-Err.stop _ is;

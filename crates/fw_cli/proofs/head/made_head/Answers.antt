@@ -3,8 +3,9 @@ use Rattle.fw_host.specs.declared.sealing.SealingOptions.{SealingOptions}
 use Rattle.std.proofs.lemmas.Result.{err_from_is_err_and}
 use Rattle.fw_cli.specs.Heads.{IsAskedFor}
 use Rattle.fw_host.specs.Heads.{IsOfHeadSetup}
+use Rattle.fw_cli.proofs.Begun.{changes_of_new}
 use Rattle.fw_cli.proofs.Captured.{capture_in_setup, capture_is_asked}
-use Rattle.fw_cli.proofs.HeadLeading.{book_in_setup, book_is_asked, no_rows, passed_because}
+use Rattle.fw_cli.proofs.HeadLeading.{book_in_setup, book_is_asked, passed_because}
 use Rattle.fw_cli.specs.Faults.{IsKeyed, MakesCounter}
 use Rattle.fw_cli.proofs.Linked.{counter_in_setup, counter_is_asked, new_counter_keyed}
 use Rattle.fw_cli.proofs.head.made_head.Goals as goal
@@ -33,8 +34,8 @@ returns-in_err-made-clause-faults g c =
     let same : passed.0.error ≡ c.in_err-made.field-0.0.error = cc passed.2 in
     passed_because c.from_residual-in_err-made.result IsOfHeadSetup passed.0 _ passed.1 same (book_in_setup c.args.options.now.book.is_new _ c.in_err-made.ensures.faults)
 
-pub returns-clause-addresses : goal.returns-clause-addresses
-returns-clause-addresses g c = no_rows _ _ _ _ _ (c.in_ok-made.ensures.new c.requires.is_new)
+pub returns-clause-changes : goal.returns-clause-changes
+returns-clause-changes g c = changes_of_new _ _ _ _ _ _ _ (c.in_ok-made.ensures.new c.requires.is_new) c.requires.changes
 
 pub returns-in_err-links-clause-asked : goal.returns-in_err-links-clause-asked
 returns-in_err-links-clause-asked g c =

@@ -1,14 +1,15 @@
-use Rattle.std.proofs.Common.{◌≡◌, ◌∙◌, All, List, Option, inl, subst}
-use Rattle.std.specs.Map.{values_of}
-use Rattle.fw_kept.specs.Head.{head_of}
-use Rattle.fw_rollout.specs.declared.link.Listed.{Listed}
-use Rattle.fw_host.specs.Addresses.{HasAddress}
+use Rattle.std.proofs.Common.{◌≡◌, ◌∙◌, List, Option, ap, inl, subst}
+use Rattle.fw_head.specs.Head.{Head}
+use Rattle.fw_kept.specs.Head.{book_of}
+use Rattle.fw_plan.specs.declared.ranges.SerialRange.{SerialRange}
 use Rattle.fw_host.specs.declared.sealing.SealingOptions.{SealingOptions}
 use Rattle.std.proofs.lemmas.Result.{err_from_is_err_and}
-use Rattle.fw_cli.specs.Heads.{IsAskedFor}
+use Rattle.fw_cli.specs.Beginning.{AreChanges}
+use Rattle.fw_cli.specs.Heads.{IsAskedFor, IsOfJudging}
 use Rattle.fw_host.specs.Heads.{IsOfHeadSetup}
+use Rattle.fw_cli.proofs.Begun.{changes_in}
 use Rattle.fw_cli.proofs.Captured.{capture_in_setup, capture_is_asked}
-use Rattle.fw_cli.proofs.HeadLeading.{address_in_setup, address_is_asked, book_in_setup, book_is_asked, passed_because}
+use Rattle.fw_cli.proofs.HeadLeading.{book_in_setup, book_is_asked, judging_in_setup, judging_is_asked, passed_because}
 use Rattle.fw_cli.specs.Faults.{IsKeyed, MakesCounter}
 use Rattle.fw_cli.proofs.Linked.{counter_in_setup, counter_is_asked, new_counter_keyed}
 use Rattle.fw_cli.proofs.head.old_head.Goals as goal
@@ -25,29 +26,18 @@ returns-in_err-kept-clause-faults g c =
     let same : passed.0.error ≡ c.in_err-kept.field-0.0.error = cc passed.2 in
     passed_because c.from_residual.result IsOfHeadSetup passed.0 _ passed.1 same (book_in_setup c.args.options.now.book.is_new _ c.in_err-kept.ensures.faults)
 
-pub returns-in_err-check_addresses-clause-asked : goal.returns-in_err-check_addresses-clause-asked
-returns-in_err-check_addresses-clause-asked g c =
-    let passed = err_from_is_err_and c.from_residual-in_err-check_addresses.result c.from_residual-in_err-check_addresses.ensures.1 in
-    let same : passed.0.error ≡ c.in_err-check_addresses.field-0.0 = passed.2.0 in
-    passed_because c.from_residual-in_err-check_addresses.result (IsAskedFor c.args.options.now) passed.0 _ passed.1 same (address_is_asked c.args.options.now _ c.in_err-check_addresses.ensures.faults)
+pub returns-in_err-changes-clause-asked : goal.returns-in_err-changes-clause-asked
+returns-in_err-changes-clause-asked g c =
+    let passed = err_from_is_err_and c.from_residual-in_err-changes.result c.from_residual-in_err-changes.ensures.1 in
+    let same : passed.0.error ≡ c.in_err-changes.field-0.0 = passed.2.0 in
+    passed_because c.from_residual-in_err-changes.result (IsAskedFor c.args.options.now) passed.0 _ passed.1 same
+    (judging_is_asked c.args.options.now c.args.asked.now.opened _ c.requires.opened (subst (λ (l : List SerialRange). IsOfJudging l c.args.asked.now.opened c.in_err-changes.field-0.0) c.deref.ensures.value c.in_err-changes.ensures.faults))
 
-pub returns-in_err-check_addresses-clause-faults : goal.returns-in_err-check_addresses-clause-faults
-returns-in_err-check_addresses-clause-faults g c =
-    let passed = err_from_is_err_and c.from_residual-in_err-check_addresses.result c.from_residual-in_err-check_addresses.ensures.1 in
-    let same : passed.0.error ≡ c.in_err-check_addresses.field-0.0 = passed.2.0 in
-    passed_because c.from_residual-in_err-check_addresses.result IsOfHeadSetup passed.0 _ passed.1 same (address_in_setup _ c.in_err-check_addresses.ensures.faults)
-
-pub returns-in_err-judge-clause-asked : goal.returns-in_err-judge-clause-asked
-returns-in_err-judge-clause-asked g c =
-    let passed = err_from_is_err_and c.from_residual-in_err-judge.result c.from_residual-in_err-judge.ensures.1 in
-    let same : passed.0.error ≡ c.in_err-judge.field-0.0 = passed.2.0 in
-    passed_because c.from_residual-in_err-judge.result (IsAskedFor c.args.options.now) passed.0 _ passed.1 same (c.in_err-judge.ensures.asked c.requires.opened)
-
-pub returns-in_err-judge-clause-faults : goal.returns-in_err-judge-clause-faults
-returns-in_err-judge-clause-faults g c =
-    let passed = err_from_is_err_and c.from_residual-in_err-judge.result c.from_residual-in_err-judge.ensures.1 in
-    let same : passed.0.error ≡ c.in_err-judge.field-0.0 = passed.2.0 in
-    passed_because c.from_residual-in_err-judge.result IsOfHeadSetup passed.0 _ passed.1 same (c.in_err-judge.ensures.faults)
+pub returns-in_err-changes-clause-faults : goal.returns-in_err-changes-clause-faults
+returns-in_err-changes-clause-faults g c =
+    let passed = err_from_is_err_and c.from_residual-in_err-changes.result c.from_residual-in_err-changes.ensures.1 in
+    let same : passed.0.error ≡ c.in_err-changes.field-0.0 = passed.2.0 in
+    passed_because c.from_residual-in_err-changes.result IsOfHeadSetup passed.0 _ passed.1 same (judging_in_setup c.deref.result.now c.args.asked.now.opened _ c.in_err-changes.ensures.faults)
 
 pub returns-in_err-file-clause-asked : goal.returns-in_err-file-clause-asked
 returns-in_err-file-clause-asked g c =
@@ -90,7 +80,8 @@ returns-in_err-sealing-clause-faults g c =
 pub returns-clause-links : goal.returns-clause-links
 returns-clause-links g c = c.in_ok-sealing.ensures.links ∙ c.in_ok-links.ensures.links
 
-pub returns-clause-addresses : goal.returns-clause-addresses
-returns-clause-addresses g c =
-    subst (λ (l : List Listed). All (HasAddress c.args.options.now.cancel l) (values_of (head_of c.in_ok-kept.kept).rows)) c.meters.ensures.meters
-    c.in_ok-check_addresses.ensures.all
+pub returns-clause-changes : goal.returns-clause-changes
+returns-clause-changes g c =
+    changes_in c.view.result.book.now (book_of c.in_ok-kept.kept) _ _ _ _ (c.view.ensures.book ∙ ap (λ (h : Head). h.book) c.head.ensures)
+    (subst (λ (l : List SerialRange). AreChanges c.view.result.book.now l c.args.asked.now.opened c.args.asked.now.list c.in_ok-changes.changes) c.deref.ensures.value
+    c.in_ok-changes.ensures.changes)

@@ -1,9 +1,12 @@
-use Rattle.std.proofs.Common.{◌≡◌}
+use Rattle.std.proofs.Common.{◌≡◌, ◌∙◌, ℕ, ap, subst}
 use Rattle.std.proofs.lemmas.Result.{err_from_is_err_and}
+use Rattle.fw_rollout.specs.Counting.{counted_of}
+use Rattle.fw_rollout.specs.declared.daemon.Counts.{Counts}
+use Rattle.fw_cli.specs.Beginning.{HasLedTo}
 use Rattle.fw_cli.specs.Heads.{IsAskedFor}
 use Rattle.fw_host.specs.Heads.{IsOfHead}
-use Rattle.fw_cli.proofs.Begun.{led_out}
-use Rattle.fw_cli.proofs.HeadLeading.{line_lost, passed_because}
+use Rattle.fw_cli.proofs.Begun.{cancels_asked, led_out}
+use Rattle.fw_cli.proofs.HeadLeading.{beginning, line_lost, passed_because}
 use Rattle.fw_cli.proofs.head.run_head.Goals as goal
 
 pub returns-in_err-tell_listening-clause-silent : goal.returns-in_err-tell_listening-clause-silent
@@ -28,23 +31,27 @@ pub returns-in_err-begin-clause-silent : goal.returns-in_err-begin-clause-silent
 returns-in_err-begin-clause-silent g c =
     let passed = err_from_is_err_and c.from_residual-in_err-begin.result c.from_residual-in_err-begin.ensures.1 in
     let same : passed.0.error ≡ c.in_err-begin.field-0.0.error = cc passed.2 in
-    passed_because c.from_residual-in_err-begin.result _ passed.0 _ passed.1 same (λ before. absurd (c.in_err-begin.ensures.faults.1 before))
+    let is = beginning c.args.options.now _ c.take.result c.in_err-begin.field-0.0.error (cancels_asked _ _ _ _ _ c.in_ok-port.ensures.changes) (λ some. c.in_ok-port.ensures.opened (rw c.take.ensures.value at some)) c.in_err-begin.ensures.faults in
+    passed_because c.from_residual-in_err-begin.result _ passed.0 _ passed.1 same (λ before. absurd (is.later before))
 
 pub returns-in_err-begin-clause-asked : goal.returns-in_err-begin-clause-asked
 returns-in_err-begin-clause-asked g c =
     let passed = err_from_is_err_and c.from_residual-in_err-begin.result c.from_residual-in_err-begin.ensures.1 in
     let same : passed.0.error ≡ c.in_err-begin.field-0.0.error = cc passed.2 in
-    passed_because c.from_residual-in_err-begin.result (IsAskedFor c.args.options.now) passed.0 _ passed.1 same
-    (c.in_err-begin.ensures.asked (λ some. c.in_ok-port.ensures.opened (rw c.take.ensures.value at some)))
+    let is = beginning c.args.options.now _ c.take.result c.in_err-begin.field-0.0.error (cancels_asked _ _ _ _ _ c.in_ok-port.ensures.changes) (λ some. c.in_ok-port.ensures.opened (rw c.take.ensures.value at some)) c.in_err-begin.ensures.faults in
+    passed_because c.from_residual-in_err-begin.result (IsAskedFor c.args.options.now) passed.0 _ passed.1 same is.asked
 
 pub returns-in_err-begin-clause-faults : goal.returns-in_err-begin-clause-faults
 returns-in_err-begin-clause-faults g c =
     let passed = err_from_is_err_and c.from_residual-in_err-begin.result c.from_residual-in_err-begin.ensures.1 in
     let same : passed.0.error ≡ c.in_err-begin.field-0.0.error = cc passed.2 in
-    passed_because c.from_residual-in_err-begin.result IsOfHead passed.0 _ passed.1 same c.in_err-begin.ensures.faults.0
+    let is = beginning c.args.options.now _ c.take.result c.in_err-begin.field-0.0.error (cancels_asked _ _ _ _ _ c.in_ok-port.ensures.changes) (λ some. c.in_ok-port.ensures.opened (rw c.take.ensures.value at some)) c.in_err-begin.ensures.faults in
+    passed_because c.from_residual-in_err-begin.result IsOfHead passed.0 _ passed.1 same is.of_head
 
 pub returns-in-Ok-clause-led : goal.returns-in-Ok-clause-led
 returns-in-Ok-clause-led g c =
     let set = c.in_ok-port.ensures in
-    led_out c.args.options.now _ _ _ _ c.in_ok-port.field-0.kept _ _ _ _ set.list.1 set.opening c.take.ensures.value set.number set.width c.in_ok-begin.ensures.begins c.in_ok-daemon.ensures.made
-    c.in-Ok.ensures.ran_out c.in-Ok.ensures.ended
+    let failed : c.counts.result.failed ≡ (counted_of c.lead.new.daemon).failed = ap (λ (counts : Counts). counts.failed) c.counts.ensures.counts in
+    led_out c.args.options.now _ _ _ _ c.in_ok-port.field-0.kept _ _ _ c.lead.new.daemon _ _ set.list.1 set.opening c.take.ensures.value set.number set.width set.changes
+    c.in_ok-begin.ensures.begins c.in_ok-daemon.ensures.made c.in-Ok.ensures.ran_out (c.deref.ensures.value ∙ c.in_ok-unlisted.ensures.rows)
+    (subst (λ (n : ℕ). HasLedTo c.deref.result.now n c.of.result) failed c.of.ensures)

@@ -60,8 +60,8 @@ returns-clause-opened g c = c.in_ok-asked.ensures.opened
 pub returns-clause-number : goal.returns-clause-number
 returns-clause-number g c = c.in_ok-kept.ensures.number
 
-pub returns-clause-addresses : goal.returns-clause-addresses
-returns-clause-addresses g c = c.in_ok-kept.ensures.addresses
+pub returns-clause-changes : goal.returns-clause-changes
+returns-clause-changes g c = c.in_ok-kept.ensures.changes
 
 pub returns-in_err-keyed-clause-asked : goal.returns-in_err-keyed-clause-asked
 returns-in_err-keyed-clause-asked g c =

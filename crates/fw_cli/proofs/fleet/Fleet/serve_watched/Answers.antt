@@ -11,4 +11,4 @@ returns-clause-writer g c = (c.serve.ensures.watched.told c.args.teller.now [] (
 pub returns-clause-told : goal.returns-clause-told
 returns-clause-told g c =
     let watched = c.serve.ensures.watched in
-    record { rounds = watched.rounds; made = watched.made; said = (watched.told c.args.teller.now [] (refl, refl, said_none _ _)).2 }
+    record { turns = watched.turns; made = watched.made; said = (watched.told c.args.teller.now [] (refl, refl, said_none _ _)).2 }
