@@ -1,6 +1,5 @@
 -- A row that ends is marked in the book and taken out: that keeps a head end.
-use Rattle.std.proofs.Common.{◌≡◌, ℕ, ◌==◌, nat_eq, not, false, Option, Some, None, Result, Ok, Err, IfOk, IsOk, refl, sym, ap, subst, ◌∙◌, ⊎_elim}
-use Rattle.std.proofs.lemmas.Map.Made.{IsDistinct-keys_filter}
+use Rattle.std.proofs.Common.{◌≡◌, ℕ, ◌==◌, false, Option, Some, None, Result, Ok, Err, IfOk, IsOk, refl, sym, ap, subst, ◌∙◌, ⊎_elim}
 use Rattle.std.proofs.lemmas.Bool.{cases_Bool, false≢true}
 use Rattle.std.proofs.lemmas.Bool.Decides.{Decides-eqb}
 use Rattle.fw_names.specs.Name.{Campaign}
@@ -13,7 +12,7 @@ use Rattle.fw_book.specs.Laws.{ImagesStay, StatesFollowCalls}
 use Rattle.fw_head.specs.Row.{Row}
 use Rattle.fw_head.specs.Head.{Rows, row_of, without_meter, IsHead}
 use Rattle.fw_head.proofs.LiveRows.{same_found}
-use Rattle.fw_head.proofs.Ended.{elsewhere, taken_out}
+use Rattle.fw_head.proofs.Ended.{left_without, elsewhere, taken_out}
 use Rattle.fw_head.proofs.Names.{mark_name}
 use Rattle.fw_head.proofs.States.{state_stays, marked_ends, row_stays}
 
@@ -35,11 +34,11 @@ module _ (follow : StatesFollowCalls) (stay : ImagesStay) where
         ⊎_elim
         (λ here.
         let same : m ≡ meter = (Decides-eqb m meter).0 here in
-        absurd (none_some r (sym (taken_out meter rows) ∙ ap (λ n. row_of (without_meter meter rows) n) (sym same) ∙ at)))
+        absurd (none_some r (sym (taken_out meter rows is.once) ∙ ap (λ n. row_of (without_meter meter rows) n) (sym same) ∙ at)))
         (λ other.
         let apart : ¬ (m ≡ meter) = λ same. false≢true (sym other ∙ (Decides-eqb m meter).1 same) in
         row_stays book (marked book serial meter state) m r (state_stays follow book serial meter state r.name.campaign m apart) ((stay book r.name.campaign).at_mark serial meter state)
-        (mark_name book serial meter state r.name.campaign) (is.of_book m r (sym (elsewhere meter m rows apart) ∙ at)))
+        (mark_name book serial meter state r.name.campaign) (is.of_book m r (sym (elsewhere meter m rows is.once apart) ∙ at)))
         (cases_Bool (m == meter));
     of_rows = λ c m live.
         ⊎_elim
@@ -49,9 +48,9 @@ module _ (follow : StatesFollowCalls) (stay : ImagesStay) where
         (λ other.
         let apart : ¬ (m ≡ meter) = λ same. false≢true (sym other ∙ (Decides-eqb m meter).1 same) in
         let was = is.of_rows c m (sym (state_stays follow book serial meter state c m apart) ∙ live) in
-        (was.0, elsewhere meter m rows apart ∙ was.1, was.2))
+        (was.0, elsewhere meter m rows is.once apart ∙ was.1, was.2))
         (cases_Bool (m == meter));
-    once = IsDistinct-keys_filter nat_eq (λ (entry : ℕ × Row). not (entry.0 == meter)) rows is.once;
+    once = (left_without meter rows is.once).once;
   }
 
   -- the same for a book and rows that equal these

@@ -6,6 +6,7 @@ pub mod Heard
 pub mod LiveRows
 pub mod SameRows
 pub mod Offers
+mod Swapped
 pub mod Ended
 pub mod Names
 pub mod States

@@ -1,7 +1,6 @@
 -- What a head end makes of a datagram, from what its rows make of it.
-use Rattle.std.proofs.Common.{◌≡◌, ℕ, ◌==◌, not, false, List, [], ◌∷◌, Option, Some, None, inl, inr, if◌then◌else◌, refl, sym, ap, ◌∙◌, ⊎_elim}
+use Rattle.std.proofs.Common.{◌≡◌, ℕ, nat_eq, List, [], ◌∷◌, Option, Some, None, inl, inr, refl, sym, ap, ◌∙◌, ⊎_elim}
 use Rattle.std.proofs.lemmas.Bool.{cases_Bool, cond-true, cond-false}
-use Rattle.std.proofs.lemmas.Bool.Decides.{Decides-eqb}
 use Rattle.fw_names.specs.Name.{Name, Campaign}
 use Rattle.fw_client.specs.Claim.{Claim}
 use Rattle.fw_book.specs.declared.row.RowState.{RowState}
@@ -20,6 +19,7 @@ use Rattle.fw_head.specs.Head.{Head, Rows, RowsHear, HeadHears, row_of, at_meter
 use Rattle.fw_head.proofs.LiveRows.{at_meter-alike, at_meter-same, same_found}
 use Rattle.fw_head.specs.Laws.{IsOfSameGoal}
 use Rattle.fw_head.proofs.SameRows.{goal_heard}
+use Rattle.fw_head.proofs.Swapped.{takes_first, keeps_first}
 
 -- a row that is taken out is taken out as it was before
 taken_before : (meter : ℕ) (change : Row → Row) (rows : Rows) → without_meter meter (at_meter meter change rows) ≡ without_meter meter rows
@@ -27,18 +27,16 @@ taken_before meter change [] = refl
 taken_before meter change (entry ∷ entries) =
     let one : Rows = (entry.0, change entry.1) ∷ entries in
     let rest : Rows = entry ∷ at_meter meter change entries in
-    let kept : Rows = entry ∷ without_meter meter entries in
     ⊎_elim
     (λ here.
-    let same : entry.0 ≡ meter = sym ((Decides-eqb meter entry.0).0 here) in
-    let out : not (entry.0 == meter) ≡ false = ap not ((Decides-eqb entry.0 meter).1 same) in
-    ap (λ (rs : Rows). without_meter meter rs) (cond-true (meter == entry.0) one rest here)
-    ∙ cond-false (not (entry.0 == meter)) ((entry.0, change entry.1) ∷ without_meter meter entries) (without_meter meter entries) out
-    ∙ sym (cond-false (not (entry.0 == meter)) kept (without_meter meter entries) out))
+    ap (λ (rs : Rows). without_meter meter rs) (cond-true (nat_eq meter entry.0) one rest here)
+    ∙ takes_first (nat_eq meter) (entry.0, change entry.1) entry entries here here)
     (λ other.
-    ap (λ (rs : Rows). without_meter meter rs) (cond-false (meter == entry.0) one rest other)
-    ∙ ap (λ (rs : Rows). if not (entry.0 == meter) then (let all : Rows = entry ∷ rs in all) else rs) (taken_before meter change entries))
-    (cases_Bool (meter == entry.0))
+    ap (λ (rs : Rows). without_meter meter rs) (cond-false (nat_eq meter entry.0) one rest other)
+    ∙ keeps_first (nat_eq meter) entry (at_meter meter change entries) other
+    ∙ ap (λ (rs : Rows). (let all : Rows = entry ∷ rs in all)) (taken_before meter change entries)
+    ∙ sym (keeps_first (nat_eq meter) entry entries other))
+    (cases_Bool (nat_eq meter entry.0))
 
 pub taken_heard : (old new : Rows) (meter : ℕ) (datagram : List ℕ) (told : RowNews) → RowsHear old meter datagram told new → without_meter meter new ≡ without_meter meter old
 taken_heard old new meter datagram told (inl x) = ap (λ (rs : Rows). without_meter meter rs) x.4 ∙ taken_before meter (λ was. x.1) old

@@ -3,6 +3,7 @@ use Rattle.std.specs.Prelude.{◌≡◌, ℕ, Bool, true, false, ◌==◌, nat_e
 use Rattle.std.specs.List.{IsDistinct, list_any}
 use Rattle.std.specs.Map.{lookup, keys_of}
 use Rattle.std.specs.Option.{option_map, option_map_or}
+use Rattle.indexmap.specs.IndexMap.{swap_remove_entry}
 use Rattle.fw_names.specs.Name.{Name, Campaign, IsRelease, name_of}
 use Rattle.fw_client.specs.Claim.{Claim}
 use Rattle.fw_client.specs.State.{IsWaiting}
@@ -42,9 +43,9 @@ at_meter meter change [] = []
 at_meter meter change (entry ∷ entries) =
     if meter == entry.0 then (entry.0, change entry.1) ∷ entries else entry ∷ at_meter meter change entries
 
--- the rows except that of the meter
+-- the rows except that of the meter, in whose place the last one comes
 abbrev pub without_meter : ℕ → Rows → Rows
-without_meter meter rows = filter (λ (entry : ℕ × Row). not (entry.0 == meter)) rows
+without_meter meter rows = swap_remove_entry (nat_eq meter) rows
 
 -- the rows except those of the campaign of this serial number
 abbrev pub without_serial : ℕ → Rows → Rows

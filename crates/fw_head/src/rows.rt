@@ -27,7 +27,8 @@ use indexmap::IndexMap;
 use indexmap::map::{IntoValues, Values};
 use std::alloc::{AllocError, Global};
 
-/// The rows of a head end, each of a meter of its own, in the order in which their campaigns were opened.
+/// The rows of a head end, each of a meter of its own. Those of a new campaign come last, and the last row takes the place of one that
+/// ends.
 pub type LiveRows<'a> = Values<'a, u32, RowCore>;
 
 /// The same by value.
@@ -279,16 +280,11 @@ impl Rows {
         }
     }
 
-    /// Takes out the row of a meter.
+    /// Takes out the row of a meter, and moves the last row to its place. No other row is looked at.
     pub(crate) fn end(&mut self, meter: MeterId)
         ensures { self.new.rows.entries ≡ without_meter meter self.old.rows.entries }
     {
-        let ended = meter.number();
-        self.rows.retain(
-            |number: &u32, row: &mut RowCore| -> bool
-                ensures { (result ≡ not (number.now == ended)) × (row.new ≡ row.old) }
-            { *number != ended },
-        );
+        let _row = self.rows.swap_remove(&meter.number());
     }
 
     /// Takes out the rows of the campaign of this serial number.
