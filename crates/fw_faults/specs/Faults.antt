@@ -3,8 +3,6 @@ use Rattle.fw_store.specs.declared.error.FileStoreError.{FileStoreError}
 use Rattle.fw_store.specs.declared.error.FileStoreError.TheVariants as file
 use Rattle.fw_image.specs.declared.error.OpenError.{OpenError}
 use Rattle.fw_image.specs.declared.error.OpenError.TheVariants as opening
-use Rattle.fw_workers.specs.declared.error.RehearseError.{RehearseError}
-use Rattle.fw_workers.specs.declared.error.RehearseError.TheVariants as workers
 use Rattle.fw_journal.specs.declared.error.JournalError.{JournalError}
 use Rattle.fw_journal.specs.declared.error.JournalError.TheVariants as journal
 use Rattle.fw_kept.specs.declared.error.OpenError.{OpenError as ReopenError}
@@ -16,7 +14,7 @@ use Rattle.fw_keys.specs.declared.error.KeysError.TheVariants as keys
 use Rattle.fw_counter.specs.declared.error.CounterError.{CounterError}
 use Rattle.fw_counter.specs.declared.error.CounterError.TheVariants as counter
 use Rattle.fw_faults.specs.declared.fault.Fault.{Fault}
-use Rattle.fw_faults.specs.declared.fault.Fault.TheVariants.{BadSetup, StoreFault, Device, BadFile, BadHeader, BadImage, Event, Mismatch, ThreadRefused, Socket, GateShut, BookExists, Locked, BookFault, BadBook, BadRecord, ForeignHead, Full, BadKeys, CounterFault, CounterSpent, OutOfMemory}
+use Rattle.fw_faults.specs.declared.fault.Fault.TheVariants.{BadSetup, StoreFault, Device, BadFile, BadHeader, BadImage, Socket, BookExists, Locked, BookFault, BadBook, BadRecord, ForeignHead, Full, BadKeys, CounterFault, CounterSpent, OutOfMemory}
 
 -- the fault that says why a file was not made or opened
 abbrev pub fault_of_file : FileStoreError → Fault
@@ -30,16 +28,6 @@ abbrev pub fault_of_opening : OpenError → Fault
 fault_of_opening opening.Fault = Device
 fault_of_opening opening.BadHeader = BadHeader
 fault_of_opening opening.BadImage = BadImage
-
--- the fault that says why a rehearsal has no report
-abbrev pub fault_of_rehearsal : RehearseError → Fault
-fault_of_rehearsal workers.Mismatch = Mismatch
-fault_of_rehearsal workers.ThreadRefused = ThreadRefused
-fault_of_rehearsal (workers.Event at) = Event
-fault_of_rehearsal workers.OutOfMemory = OutOfMemory
-fault_of_rehearsal workers.Socket = Socket
-fault_of_rehearsal workers.GateShut = GateShut
-fault_of_rehearsal workers.BadSetup = BadSetup
 
 -- the fault that says why the file of a book was not made or opened
 abbrev pub fault_of_device : JournalError → Fault

@@ -2,7 +2,7 @@
 
 ghost use Rattle.std.specs.Prelude.{◌≡◌};
 ghost use Rattle.fw_faults.specs.declared.fault.Fault.TheVariants.{OutOfMemory};
-ghost use Rattle.fw_faults.specs.Faults.{fault_of_counter, fault_of_device, fault_of_file, fault_of_keys, fault_of_opening, fault_of_rehearsal, fault_of_reopening, fault_of_stop};
+ghost use Rattle.fw_faults.specs.Faults.{fault_of_counter, fault_of_device, fault_of_file, fault_of_keys, fault_of_opening, fault_of_reopening, fault_of_stop};
 
 use fw_book::BookError;
 use fw_capture::CaptureError;
@@ -12,7 +12,6 @@ use fw_journal::JournalError;
 use fw_keys::{BadLine, KeysError};
 use fw_rollout::Stop;
 use fw_store::FileStoreError;
-use fw_workers::RehearseError;
 use std::alloc::{AllocError, AllocFailed};
 use std::fmt;
 use thiserror::Error;
@@ -85,6 +84,8 @@ pub enum Fault {
     ForeignHead,
     /// A book has 2^60 bytes or more.
     Full,
+    /// So many rows of the waves before the next one failed that it doesn't begin.
+    TooManyFailed(u64),
     /// The book refused to open a campaign.
     OpenRefused(BookError),
     /// The book refused to cancel a campaign.
@@ -124,6 +125,7 @@ impl fmt::Display for Fault {
             Fault::BadList(number) => write!(f, "BadList {number}"),
             Fault::BadBook(offset) => write!(f, "BadBook {offset}"),
             Fault::BadRecord(index) => write!(f, "BadRecord {index}"),
+            Fault::TooManyFailed(failed) => write!(f, "TooManyFailed {failed}"),
             Fault::BadKeys(number, cause) => write!(f, "BadKeys {number} {cause}"),
             Fault::NoKey(meter) => write!(f, "NoKey {meter}"),
             Fault::OpenRefused(refusal) | Fault::CancelRefused(refusal) => {
@@ -179,22 +181,6 @@ impl From<OpenError> for Fault {
             OpenError::Fault => Fault::Device,
             OpenError::BadHeader => Fault::BadHeader,
             OpenError::BadImage => Fault::BadImage,
-        }
-    }
-}
-
-impl From<RehearseError> for Fault {
-    ghost from_gives = { λ error fault. fault ≡ fault_of_rehearsal error };
-
-    fn from(error: RehearseError) -> Fault {
-        match error {
-            RehearseError::Mismatch => Fault::Mismatch,
-            RehearseError::ThreadRefused => Fault::ThreadRefused,
-            RehearseError::Event(_) => Fault::Event,
-            RehearseError::OutOfMemory => Fault::OutOfMemory,
-            RehearseError::Socket => Fault::Socket,
-            RehearseError::GateShut => Fault::GateShut,
-            RehearseError::BadSetup => Fault::BadSetup,
         }
     }
 }
