@@ -9,8 +9,10 @@ use Rattle.std.specs.declared.net.socket_addr.SocketAddr.{SocketAddr}
 use Rattle.fw_book.specs.Contents.{Contents}
 use Rattle.fw_book.specs.declared.notes.End.{End}
 use Rattle.fw_book.specs.Laws.{StatesFollowCalls}
-use Rattle.fw_head.specs.Head.{Head, HeadHears, IsHead, IsOfferedIn, TellsReason, row_of, sends_to, ticked_head}
+use Rattle.fw_head.specs.Head.{GivesUpRow, Head, HeadHears, IsHead, IsOfferedIn, TellsReason, row_of, sends_to, ticked_head}
 use Rattle.fw_head.specs.Laws.{RowKeepsGoal}
+use Rattle.fw_head.specs.declared.giving_up.GivenUp.{GivenUp}
+use Rattle.fw_head.specs.declared.giving_up.WhyGivenUp.TheVariants as why
 use Rattle.fw_head.specs.declared.news.News.{News}
 use Rattle.fw_head.specs.declared.news.News.TheVariants as news
 use Rattle.fw_kept.specs.Head.{Holds, head_of}
@@ -30,9 +32,10 @@ use Rattle.fw_rollout.specs.declared.daemon.Heard.TheVariants as returned
 use Rattle.fw_rollout.specs.Leading.{HearsAs, IsAboutToSend, IsAboutToTell, IsNotedIn, Leader, SavesAll, TicksMeter, ended_by, heard_of}
 use Rattle.fw_rollout.specs.Schedule.{EndsMeter, IsLiveAt, IsSchedule, SameMeters, is_live, is_live_turn, links_of, listed_of, lives_of}
 use Rattle.fw_rollout.specs.Daemon.{IsLed, IsList, IsOver, IsSaveDue, ended_of, hold, kept_of, live_of, live_rows}
+use Rattle.fw_rollout.specs.Plans.{GivesUpAt, given_up_at, with_meters}
 use Rattle.fw_rollout.specs.Stopping.{IsSaveStop, stop_of}
 use Rattle.fw_rollout.specs.Timing.{HasRoom, most_out}
-use Rattle.fw_rollout.proofs.Hearing.{Moves, Ends, hears_nothing, hears_moved, hears_end}
+use Rattle.fw_rollout.proofs.Hearing.{Moves, Ends, given_up_ends, hears_nothing, hears_moved, hears_end}
 use Rattle.fw_rollout.proofs.Lives.{at_place, false_of_none, map_agree, none_of_false, one_over}
 use Rattle.fw_rollout.proofs.Rows.{stays}
 
@@ -192,6 +195,56 @@ module _ {D : Type 0} (honest : D → Bool) (contents : D → List ℕ) (may_lea
         schedule ends.listed
         (ends.lives ∙ ap (λ (bs : List Bool). slice_set bs place false) (led.lives ∙ ap (λ (h : Head). live_of h leader.meters) led.head)
         ∙ live_ended was is one leader.meters place (record { meter = meter; address = from }) its led.list there_too))
+
+  -- a row is given up
+  pub gives_up_on : StatesFollowCalls → (old new : HeadDaemon D) (leader : Leader) → IsLed honest contents may_leave old leader → IsHead (head_of (kept_of old))
+      → (place meter : ℕ) (address : SocketAddr) (time : ℕ) (given : GivenUp) → slice_get (listed_of old.schedule) place ≡ Some (record { meter = meter; address = address })
+      → GivesUpRow (head_of (kept_of old)) meter why.Silent given (head_of (kept_of new)) → Holds honest contents may_leave (kept_of new) leader.synced
+      → ended_of new ≡ ended_of old ++ given_up_at time meter given ∷ [] → IsSchedule new.schedule → EndsMeter place old.schedule new.schedule
+      → (next : Leader) × GivesUpAt leader address time next × IsLed honest contents may_leave new next
+  gives_up_on follow old new leader led head place meter address time given there gives holds ended schedule ends =
+      let was = head_of (kept_of old) in
+      let is = head_of (kept_of new) in
+      let at : Listed = record { meter = meter; address = address } in
+      let one : Ended = given_up_at time meter given in
+      let its = given_up_ends follow was is meter time given head gives in
+      let before : All (IsNotedIn was.book) leader.unsaved = subst (λ (h : Head). All (IsNotedIn h.book) leader.unsaved) led.head led.noted in
+      let there_now : slice_get leader.meters place ≡ Some at = ap (λ (ms : List Listed). slice_get ms place) led.meters ∙ there in (
+        record leader { head = is; unsaved = leader.unsaved ++ one ∷ [] },
+        record {
+          meter = meter;
+          given = given;
+          listed = is_listed old leader place at led there;
+          gives = subst (λ (h : Head). GivesUpRow h meter why.Silent given is) (sym led.head) gives;
+          others = refl;
+        },
+        record {
+          holds = holds;
+          meters = led.meters ∙ sym ends.listed;
+          list = led.list;
+          head = refl;
+          unsaved = ap (λ (xs : List Ended). xs ++ one ∷ []) led.unsaved ∙ sym ended;
+          noted = noted_more was is meter one leader.unsaved its before;
+          schedule = schedule;
+          lives = ends.lives ∙ ap (λ (bs : List Bool). slice_set bs place false) (led.lives ∙ ap (λ (h : Head). live_of h leader.meters) led.head)
+              ∙ live_ended was is one leader.meters place at its led.list there_now;
+        },
+      )
+
+  -- other meters are asked from now on
+  pub relisted_on : (old new : HeadDaemon D) (leader : Leader) (meters : List Listed) (head : Head) (list : List Listed) → head ≡ head_of (kept_of old) → list ≡ meters
+      → IsLed honest contents may_leave old leader → IsList meters → kept_of new ≡ kept_of old → ended_of new ≡ ended_of old → IsSchedule new.schedule
+      → listed_of new.schedule ≡ list → lives_of new.schedule ≡ live_of head list → IsLed honest contents may_leave new (with_meters meters leader)
+  relisted_on old new leader meters head list head_is list_is led once kept ended schedule listed lives = record {
+    holds = subst (λ k. Holds honest contents may_leave k leader.synced) (sym kept) led.holds;
+    meters = sym (listed ∙ list_is);
+    list = once;
+    head = led.head ∙ sym (ap (λ k. head_of k) kept);
+    unsaved = led.unsaved ∙ sym ended;
+    noted = led.noted;
+    schedule = schedule;
+    lives = lives ∙ ap (λ (ms : List Listed). live_of head ms) list_is ∙ ap (λ (h : Head). live_of h meters) (head_is ∙ sym led.head);
+  }
 
   -- a tick
   pub ticked_on : (old new : HeadDaemon D) (leader : Leader) → IsLed honest contents may_leave old leader → leader.going ≡ [] → (place : ℕ) (at : Listed) → slice_get (listed_of old.schedule) place ≡ Some at → (datagrams : List (List ℕ))

@@ -1,5 +1,7 @@
 -- What a datagram of one meter makes of a head end: of its book, and of which meters have a live row.
-use Rattle.std.proofs.Common.{◌≡◌, ◌≢◌, ◌⊎◌, ℕ, true, false, List, [], ◌∷◌, Option, Some, None, is_some, inl, inr, refl, sym, ap, subst, ◌∙◌}
+use Rattle.std.proofs.Common.{◌≡◌, ◌≢◌, ◌⊎◌, ℕ, nat_eq, true, false, List, [], ◌∷◌, Option, Some, None, is_some, inl, inr, refl, sym, ap, subst, ◌∙◌}
+use Rattle.std.specs.List.{IsDistinct}
+use Rattle.std.specs.Map.{keys_of}
 use Rattle.fw_names.specs.Name.{Name, Campaign}
 use Rattle.fw_book.specs.declared.row.RowState.TheVariants as state
 use Rattle.fw_book.specs.declared.notes.End.{End}
@@ -8,22 +10,26 @@ use Rattle.fw_book.specs.Notes.{Known, with_ending}
 use Rattle.fw_book.specs.Contents.{state_in}
 use Rattle.fw_book.specs.Changes.{marked}
 use Rattle.fw_book.specs.Laws.{StatesFollowCalls}
+use Rattle.fw_head.specs.declared.giving_up.GivenUp.{GivenUp}
+use Rattle.fw_head.specs.declared.giving_up.WhyGivenUp.TheVariants as why
 use Rattle.fw_head.specs.declared.news.News.{News}
 use Rattle.fw_head.specs.declared.news.News.TheVariants as news
 use Rattle.fw_head.specs.declared.news.Told.{Told}
 use Rattle.fw_head.specs.declared.news.RowNews.{RowNews}
 use Rattle.fw_head.specs.declared.news.RowNews.TheVariants as by
 use Rattle.fw_head.specs.Row.{Row}
-use Rattle.fw_head.specs.Head.{Head, IsHead, HeadHears, RowsMayWant, TellsReason, row_of, without_meter, went_on, news_of}
+use Rattle.fw_head.specs.Head.{GivesUpRow, Head, IsHead, HeadHears, RowsMayWant, TellsReason, row_of, without_meter, went_on, news_of}
 use Rattle.fw_head.specs.Laws.{RowKeepsGoal}
+use Rattle.fw_head.proofs.Ended.{elsewhere, taken_out}
 use Rattle.fw_kept.specs.Head.{IsEnd, LosesMark, head_of, known_heard}
 use Rattle.fw_kept.specs.declared.head.KeptHead.{KeptHead}
 use Rattle.fw_ledger.specs.declared.record.Ending.{Ending}
 use Rattle.fw_ledger.specs.declared.record.Ending.TheVariants as ends
 use Rattle.fw_rollout.specs.declared.ended.Ended.{Ended}
 use Rattle.fw_rollout.specs.Leading.{IsNotedIn, ended_by, state_after}
+use Rattle.fw_rollout.specs.Plans.{given_up_at}
 use Rattle.fw_rollout.proofs.Marks.{mark_notes, mark_keeps}
-use Rattle.fw_rollout.proofs.Rows.{stays, elsewhere, taken_out}
+use Rattle.fw_rollout.proofs.Rows.{stays}
 
 -- ---- nothing
 
@@ -81,15 +87,15 @@ ended_state ends.Failed = λ is. cc
 abbrev left_of : Head → ℕ → ℕ → Ending → Head
 left_of head meter serial ending = record head { book = marked head.book serial meter (state_after ending); rows = without_meter meter head.rows }
 
-left_ends : StatesFollowCalls → (old new : Head) (meter : ℕ) (c : Campaign) (ending : Ending) (end : End) → state_in old.book c meter ≡ Some state.Live → new ≡ left_of old meter c.serial ending → Ends old new meter (record { campaign = c; meter = meter; ending = ending; end = end })
-left_ends follow old new meter c ending end live is = record {
+left_ends : StatesFollowCalls → (old new : Head) (meter : ℕ) (c : Campaign) (ending : Ending) (end : End) → IsDistinct nat_eq (keys_of old.rows) → state_in old.book c meter ≡ Some state.Live → new ≡ left_of old meter c.serial ending → Ends old new meter (record { campaign = c; meter = meter; ending = ending; end = end })
+left_ends follow old new meter c ending end once live is = record {
   own = refl;
   noted = ap (λ (h : Head). state_in h.book c meter) is ∙ mark_notes follow old.book c meter (state_after ending) live;
   keeps = λ other was.
       ap (λ (h : Head). state_in h.book other.campaign other.meter) is
       ∙ mark_keeps follow old.book c meter (state_after ending) live other.campaign other.meter (state_after other.ending) (ended_state other.ending) was;
-  over = ap (λ (h : Head). is_some (row_of h.rows meter)) is ∙ ap (λ (o : Option Row). is_some o) (taken_out meter old.rows);
-  others = λ m apart. ap (λ (h : Head). is_some (row_of h.rows m)) is ∙ ap (λ (o : Option Row). is_some o) (elsewhere meter m old.rows apart);
+  over = ap (λ (h : Head). is_some (row_of h.rows meter)) is ∙ ap (λ (o : Option Row). is_some o) (taken_out meter old.rows once);
+  others = λ m apart. ap (λ (h : Head). is_some (row_of h.rows m)) is ∙ ap (λ (o : Option Row). is_some o) (elsewhere meter m old.rows once apart);
 }
 
 same_ended : (a b : Ended) → (let xs : List Ended = a ∷ [] in xs ≡ b ∷ []) → a ≡ b
@@ -98,24 +104,32 @@ same_ended a b e = cc
 none_ended : (b : Ended) → (let xs : List Ended = [] in xs ≡ b ∷ []) → ⊥
 none_ended b e = cc
 
-ends_took : StatesFollowCalls → (old new : Head) (meter : ℕ) (row next : Row) (heard : RowNews) (told : News) (end : End) (ended : Ended) → next.name ≡ row.name → state_in old.book row.name.campaign meter ≡ Some state.Live
+ends_took : StatesFollowCalls → (old new : Head) (meter : ℕ) (row next : Row) (heard : RowNews) (told : News) (end : End) (ended : Ended) → IsDistinct nat_eq (keys_of old.rows) → next.name ≡ row.name → state_in old.book row.name.campaign meter ≡ Some state.Live
     → told ≡ news_of row.name.campaign meter heard → new ≡ went_on old meter next heard → ended_by told end ≡ ended ∷ [] → Ends old new meter ended
-ends_took follow old new meter row next by.Nothing told end ended same live tells is by = absurd (none_ended ended (sym (ap (λ (n : News). ended_by n end) tells) ∙ by))
-ends_took follow old new meter row next by.Moved told end ended same live tells is by = absurd (none_ended ended (sym (ap (λ (n : News). ended_by n end) tells) ∙ by))
-ends_took follow old new meter row next (by.Done claim) told end ended same live tells is by =
+ends_took follow old new meter row next by.Nothing told end ended once same live tells is by = absurd (none_ended ended (sym (ap (λ (n : News). ended_by n end) tells) ∙ by))
+ends_took follow old new meter row next by.Moved told end ended once same live tells is by = absurd (none_ended ended (sym (ap (λ (n : News). ended_by n end) tells) ∙ by))
+ends_took follow old new meter row next (by.Done claim) told end ended once same live tells is by =
     let e = same_ended (record { campaign = row.name.campaign; meter = meter; ending = ends.Done; end = end }) ended (sym (ap (λ (n : News). ended_by n end) tells) ∙ by) in
     subst (λ (x : Ended). Ends old new meter x) e
-    (left_ends follow old new meter row.name.campaign ends.Done end live (is ∙ ap (λ (n : Name). left_of old meter n.campaign.serial ends.Done) same))
-ends_took follow old new meter row next (by.Failed why) told end ended same live tells is by =
+    (left_ends follow old new meter row.name.campaign ends.Done end once live (is ∙ ap (λ (n : Name). left_of old meter n.campaign.serial ends.Done) same))
+ends_took follow old new meter row next (by.Failed why) told end ended once same live tells is by =
     let e = same_ended (record { campaign = row.name.campaign; meter = meter; ending = ends.Failed; end = end }) ended (sym (ap (λ (n : News). ended_by n end) tells) ∙ by) in
     subst (λ (x : Ended). Ends old new meter x) e
-    (left_ends follow old new meter row.name.campaign ends.Failed end live (is ∙ ap (λ (n : Name). left_of old meter n.campaign.serial ends.Failed) same))
+    (left_ends follow old new meter row.name.campaign ends.Failed end once live (is ∙ ap (λ (n : Name). left_of old meter n.campaign.serial ends.Failed) same))
 
 pub hears_end : StatesFollowCalls → RowKeepsGoal → (old new : Head) (meter : ℕ) (datagram : List ℕ) (told : News) (end : End) (ended : Ended) → IsHead old → HeadHears old meter datagram told new → ended_by told end ≡ ended ∷ [] → Ends old new meter ended
 hears_end follow keeps old new meter datagram told end ended head (inl takes) by =
-    ends_took follow old new meter takes.row takes.next takes.heard told end ended (keeps takes.row takes.next datagram takes.heard takes.hears).name
+    ends_took follow old new meter takes.row takes.next takes.heard told end ended head.once (keeps takes.row takes.next datagram takes.heard takes.hears).name
     (head.of_book meter takes.row takes.found).live takes.told_is takes.new_is by
 hears_end follow keeps old new meter datagram told end ended head (inr ignores) by = absurd (none_ended ended (sym (ap (λ (n : News). ended_by n end) ignores.1) ∙ by))
+
+-- a row is given up
+pub given_up_ends : StatesFollowCalls → (old new : Head) (meter time : ℕ) (given : GivenUp) → IsHead old → GivesUpRow old meter why.Silent given new → Ends old new meter (given_up_at time meter given)
+given_up_ends follow old new meter time given head gives =
+    let own : gives.row.name.campaign ≡ given.campaign = sym (ap (λ (g : GivenUp). g.campaign) gives.given_is) in
+    let end : End = record { at = time; reason = Some given.reason } in
+    subst (λ (c : Campaign). Ends old new meter (record { campaign = c; meter = meter; ending = ends.Failed; end = end })) own
+    (left_ends follow old new meter gives.row.name.campaign ends.Failed end head.once (head.of_book meter gives.row gives.found).live gives.new_is)
 
 -- ---- what a live row is there for
 

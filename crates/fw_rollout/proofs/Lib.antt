@@ -18,3 +18,6 @@ pub mod Daemons
 pub mod Hearing
 pub mod Steps
 pub mod Rounds
+pub mod Shorter
+pub mod Silences
+pub mod Activating

@@ -4,7 +4,7 @@ use Rattle.std.specs.Int.{from_bool}
 use Rattle.std.specs.Prelude.{IsTrue, min, max, slice_get, slice_set}
 use Rattle.std.proofs.lemmas.Bool.{false≢true}
 use Rattle.std.proofs.lemmas.List.{map-set}
-use Rattle.fw_rollout.specs.Link.{IsAnswered, IsGivenUp, IsLiveLink, IsReady, IsSent, turn_after, until_of}
+use Rattle.fw_rollout.specs.Link.{IsAnswered, IsGivenUp, IsHeld, IsLiveLink, IsReady, IsSent, turn_after, until_of}
 use Rattle.fw_rollout.specs.Timing.{HasRoom, max_tick, most_out}
 use Rattle.fw_rollout.specs.Schedule.{EndsMeter, IsAwaited, IsSchedule, is_live, is_live_turn, links_of}
 use Rattle.fw_rollout.specs.declared.link.Answer.{Answer}
@@ -89,6 +89,27 @@ sends_out place now count link next old new s was ready goes links timing places
   live = live_kept old.live new.live link next live (ap is_live goes ∙ sym (ap is_live_turn ready));
   awaited = inl (subst (λ (l : Link). IsAwaited l.turn) (sym goes) tt);
 }
+
+-- ---- it is held
+
+same_most : (a b : ℕ) → b ≡ a → b ≤ a
+same_most a b e = omega arith
+
+pub holds_back : (place now : ℕ) (link next : Link) (old new : Schedule) → IsSchedule old → slice_get (links_of old) place ≡ Some link → IsReady link → IsHeld now link next
+    → links_of new ≡ slice_set (links_of old) place next → new.timing ≡ old.timing → new.places ≡ old.places → new.out ≡ old.out → new.live ≡ old.live
+    → Moves place link next old new
+holds_back place now link next old new s was ready goes links timing places out live =
+    let same_out : next.out ≡ link.out = ap (λ (l : Link). l.out) goes in record {
+      was = was;
+      links = links;
+      timing = timing;
+      places = places;
+      same_at = ap (λ (l : Link). l.at) goes;
+      out = both_same old.out new.out link.out next.out out same_out;
+      within = within_less old new s timing (same_most old.out new.out out);
+      live = live_kept old.live new.live link next live (ap is_live goes ∙ sym (ap is_live_turn ready));
+      awaited = inr (same_out ∙ not_out link.turn link.out (s.awaited place link was) ready);
+    }
 
 -- ---- it is answered
 

@@ -153,6 +153,16 @@ queue_sent place time link next old new s was ready goes first rest = record {
   others = λ other n. taken_apart other place old.ready.items new.ready.items n first rest;
 }
 
+-- it was the next, and is held
+pub queue_held : (place time : ℕ) (link next : Link) (old new : Schedule) → IsSchedule old → slice_get (links_of old) place ≡ Some link → IsReady link → next.turn ≡ turns.Paused time
+    → IsFirst old place → new.ready.items ≡ drop 1 old.ready.items → Requeues place next old new
+queue_held place time link next old new s was ready goes first rest = record {
+  here = subst (λ (t : Turn). QueuesTurn t (times place new.ready.items)) (sym goes)
+      (none_left (times place old.ready.items) (times place new.ready.items) (taken_here place old.ready.items new.ready.items first rest)
+      (subst (λ (t : Turn). QueuesTurn t (times place old.ready.items)) ready (queue_at old place link s was)));
+  others = λ other n. taken_apart other place old.ready.items new.ready.items n first rest;
+}
+
 -- ---- the first in the queue has ended
 
 less_turn : (turn : Turn) (n m : ℕ) → turn ≢ turns.Ready → n ≡ m + 1 → QueuesTurn turn n → QueuesTurn turn m

@@ -1,8 +1,7 @@
 -- What a daemon does after what it did.
 use Rattle.std.proofs.Common.{◌≡◌, List, [], ◌∷◌, inl, inr, refl, sym, ap, subst, ◌∙◌}
 use Rattle.std.specs.declared.net.socket_addr.SocketAddr.{SocketAddr}
-use Rattle.std.specs.Prelude.{ℕ, Bool, OnErr, OnOk, Option, None, Some, Result, Ok, Err}
-use Rattle.std.specs.Result.{result_err}
+use Rattle.std.specs.Prelude.{ℕ, Bool, OnErr, OnOk, Result, Ok, Err}
 use Rattle.fw_rollout.specs.declared.daemon.HeadDaemon.{HeadDaemon}
 use Rattle.fw_rollout.specs.declared.daemon.Heard.{Heard}
 use Rattle.fw_port.specs.Acts.{came, quiet}
@@ -41,18 +40,6 @@ led_told honest contents may_leave daemon leader led = record {
 pub at_err : {A E X : Type 0} (r : Result A E) → X → OnErr r X
 at_err (Ok a) x = tt
 at_err (Err e) x = x
-
-pub both_ok : {A E X Y Z : Type 0} (r : Result A E) → (X → Y → Z) → OnOk r X → OnOk r Y → OnOk r Z
-both_ok (Ok a) f x y = f x y
-both_ok (Err e) f x y = tt
-
-some_none : {X : Type 0} (x : X) → Some x ≡ None → ⊥
-some_none x e = cc
-
--- a result that has no error
-pub without_err : {A E X : Type 0} (r : Result A E) (error : Option E) → error ≡ result_err r → error ≡ None → OnOk r X → X
-without_err (Ok a) error is none x = x
-without_err (Err e) error is none x = absurd (some_none e (sym is ∙ none))
 
 -- from each head end that rests and of which the first daemon is, the head end did this, and the second is its own then
 abbrev pub Follows : {D : Type 0} → (D → Bool) → (D → List ℕ) → (D → List ℕ → Type 0) → HeadDaemon D → List Act → List Act → HeadDaemon D → Type 0

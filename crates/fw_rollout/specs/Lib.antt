@@ -3,7 +3,11 @@ pub mod Acts
 pub mod Timing
 pub mod Leading
 pub mod Counting
+pub mod Contacts
 pub mod Daemon
+pub mod Plans
+pub mod Legs
+pub mod Laws
 pub mod Early
 pub mod Lists
 pub mod Stopping

@@ -1,6 +1,6 @@
 -- For private clauses alone: the link of one meter, and what its times are after a tick, an answer and a silence. Times are in microseconds.
 use Rattle.std.specs.Prelude.{◌≡◌, ◌≢◌, ◌⊎◌, ℕ, ◌+◌, ◌-◌, ◌<◌, ◌≤◌, ◌^◌, nat_le, Bool, true, false, Option, Some, None, min, if◌then◌else◌}
-use Rattle.fw_rollout.specs.Timing.{first_pause, lengthened, longer, wait_after}
+use Rattle.fw_rollout.specs.Timing.{first_pause, lengthened, longer, longest_pause, wait_after}
 use Rattle.fw_rollout.specs.declared.link.Answer.{Answer}
 use Rattle.fw_rollout.specs.declared.link.Answer.TheVariants as answers
 use Rattle.fw_rollout.specs.declared.link.Link.{Link}
@@ -85,6 +85,10 @@ abbrev pub answered_of : Answer → ℕ → ℕ
 answered_of answers.Partial out = min out 1
 answered_of answers.Last out = out
 answered_of answers.Early out = out
+
+-- the row may not be asked now, and is looked at again after the longest pause
+abbrev pub IsHeld : ℕ → Link → Link → Type 0
+IsHeld now old new = new ≡ record old { turn = turns.Paused (after now longest_pause) }
 
 -- where the link is after an answer: where the meter isn't ready, it pauses until this time, if it may not be ticked already
 abbrev pub turn_after : Answer → ℕ → Turn → Turn

@@ -1,7 +1,7 @@
 -- For private clauses alone: the links of all meters, which of them may be ticked now, and what each call makes of them.
 use Rattle.std.specs.Prelude.{◌≡◌, ◌⊎◌, ◌↔◌, ℕ, ◌<◌, ◌≤◌, ◌==◌, ◌^◌, Bool, true, false, List, [], ◌∷◌, ◌++◌, map, Option, Some, None, Contains, MatchOption, slice_get, slice_set, sum_by, count_by, if◌then◌else◌}
 use Rattle.std.specs.declared.net.socket_addr.SocketAddr.{SocketAddr}
-use Rattle.fw_rollout.specs.Link.{IsAnswered, IsGivenUp, IsLiveLink, IsNewLink, IsReady, IsSent, is_expired, is_resent, lacks_answer, until_of}
+use Rattle.fw_rollout.specs.Link.{IsAnswered, IsGivenUp, IsHeld, IsLiveLink, IsNewLink, IsReady, IsSent, is_expired, is_resent, lacks_answer, until_of}
 use Rattle.fw_rollout.specs.Timing.{most_out}
 use Rattle.fw_rollout.specs.Counting.{one_more}
 use Rattle.fw_rollout.specs.declared.link.Answer.{Answer}
@@ -135,6 +135,9 @@ Adds at is_live old new = (link : Link) × IsNewLink at is_live old.timing.resen
 
 abbrev pub Sends : ℕ → ℕ → ℕ → Schedule → Schedule → Type 0
 Sends place now count old new = GoesOnAt place (λ link next. IsSent now count link next) old new
+
+abbrev pub Holds : ℕ → ℕ → Schedule → Schedule → Type 0
+Holds place now old new = GoesOnAt place (λ link next. IsHeld now link next) old new
 
 abbrev pub Answers : ℕ → ℕ → Answer → Schedule → Schedule → Type 0
 Answers place now answer old new =

@@ -13,18 +13,20 @@ ghost use Rattle.std.specs.Prelude.{
   All,
   Contains,
   Some,
+  false,
   IsTrue,
   IfOk,
   IfErr,
   IfNone,
   IfSome,
   IsErrOf,
+  MatchBool,
   OnErr,
   OnOk,
-  MatchOption,
   is_some,
   length,
   min,
+  replicate,
   slice_get,
 };
 ghost use Rattle.fw_head.specs.Row.{bytes_of};
@@ -46,6 +48,26 @@ ghost use Rattle.fw_rollout.specs.Counting.{
   with_row,
 };
 ghost use Rattle.fw_rollout.specs.Leading.{HasLiveRow, HearsAs, IsAboutToSend, IsAboutToTell, IsListed, Leader, SavesAll, TicksMeter};
+ghost use Rattle.fw_rollout.specs.Plans.{
+  GivesUpAt,
+  GivesUpNone,
+  IfAsks,
+  IfNobody,
+  IfSilent,
+  IfWaits,
+  IsAskedAs,
+  IsLet,
+  IsSilent,
+  IsSilentAt,
+  IsWaitedFor,
+  KnowsSame,
+  MatchNext,
+  NotesContact,
+  contacts_of,
+  plan_of,
+  with_meters,
+};
+ghost use Rattle.fw_plan.specs.Silence.{no_contact};
 ghost use Rattle.fw_rollout.specs.Daemon.{
   EndsOneAt,
   HasRunOut,
@@ -77,15 +99,17 @@ ghost use Rattle.fw_rollout.specs.Daemon.{
 };
 ghost use Rattle.fw_rollout.specs.Schedule.{EndsMeter, IsSchedule, listed_of, lives_of, times};
 
+use crate::contacts::{Contacts, seconds_of};
 use crate::early::is_early;
 use crate::ended::Ended;
 use crate::error::Stop;
 use crate::link::{Answer, Listed};
 use crate::meters::MeterList;
+use crate::plan::Plan;
 use crate::schedule::Schedule;
 use crate::timing::Timing;
-use fw_book::End;
-use fw_head::{HeadCore, News, OutOfMemory, Told};
+use fw_book::{End, RowState};
+use fw_head::{HeadCore, News, OutOfMemory, Told, WhyGivenUp};
 use fw_journal::JournalDevice;
 use fw_kept::KeptHead;
 use fw_ledger::Ending;
@@ -126,6 +150,19 @@ pub struct Due {
     pub datagrams: Vec<Vec<u8>>,
 }
 
+/// What comes of the row that may be asked next.
+#[derive(Drop)]
+pub enum Next {
+    /// It is asked.
+    Asks(Due),
+    /// It waits, since its next request would activate the image, and that may not be at this time.
+    Waits,
+    /// It isn't asked, since its meter is silent for too long. It is to be given up, and stays the next until then.
+    Silent(Listed),
+    /// No row may be asked now, or too much is out.
+    Nobody,
+}
+
 /// What comes of a datagram.
 #[derive(Clone, Copy, Debug)]
 pub enum Heard {
@@ -144,7 +181,10 @@ pub enum Heard {
 pub struct HeadDaemon<D: JournalDevice + Drop> {
     alloc: Global,
     kept: KeptHead<D>,
+    plan: Plan,
     schedule: Schedule,
+    /// When each meter of the list was asked and heard.
+    contacts: Contacts,
     /// The rows that ended and are not on the device yet, the oldest first.
     ended: Vec<Ended>,
     /// When the oldest of them ended.
@@ -158,7 +198,9 @@ impl<D: JournalDevice + Drop> Drop for HeadDaemon<D> {
         let HeadDaemon {
             alloc: _,
             kept: _,
+            plan: _,
             schedule: _,
+            contacts: _,
             ended: _,
             held_since: _,
             counts: _,
@@ -177,20 +219,27 @@ impl<D: JournalDevice + Drop> HeadDaemon<D> {
         kept: KeptHead<D>,
         meters: &MeterList,
         timing: Timing,
+        plan: Plan,
     ) -> Result<HeadDaemon<D>, Stop>
         ensures kept { IfOk result (λ daemon. kept_of daemon ≡ kept) }
         ensures meters { IfOk result (λ daemon. meters_of daemon ≡ meters.now) }
         ensures timing { IfOk result (λ daemon. timing_of daemon ≡ timing) }
+        ensures plan { IfOk result (λ daemon. plan_of daemon ≡ plan) }
+        ensures contacts { IfOk result (λ daemon. contacts_of daemon ≡ replicate (length meters.now) no_contact) }
         ensures counts { IfOk result (λ daemon. counted_of daemon ≡ none_counted) }
         ensures led { (synced : Contents) → Holds D.honest D.contents D.may_leave kept synced
             → IfOk result (λ daemon. IsLed D.honest D.contents D.may_leave daemon (new_leader meters.now (head_of kept) synced)) }
         ensures memory { IfErr result (λ stop. stop ≡ Stop.OutOfMemory) }
     {
-        let schedule = schedule_of(alloc, kept.head(), meters.meters(), timing)?;
+        let list = meters.meters();
+        let schedule = schedule_of(alloc, kept.head(), list, timing)?;
+        let contacts = Contacts::new(alloc, list.len())?;
         Ok(HeadDaemon {
             alloc,
             kept,
+            plan,
             schedule,
+            contacts,
             ended: Vec::new(alloc),
             held_since: 0,
             counts: Counts {
@@ -205,32 +254,45 @@ impl<D: JournalDevice + Drop> HeadDaemon<D> {
         })
     }
 
-    /// What is sent at this time, if anything is: what a row sends of which nothing is outstanding, or whose answers were waited for long
-    /// enough. No more is out at once than the flight, or one tick. Each is one that a head end may send of the book on the device.
+    /// What comes of the row that may be asked next at this time, of which nothing is outstanding, or whose answers were waited for long enough:
+    /// what it sends, or that it waits by the plan, where `date` is the time in seconds since 1970, or that its meter is silent. No more is
+    /// out at once than the flight, or one tick. Each datagram is one that a head end may send of the book on the device.
     ///
     /// # Errors
     ///
     /// `OutOfMemory` alone. What was to be sent may be lost then.
-    pub fn due(&mut self, now: u64) -> Result<Option<Due>, Stop>
+    pub fn due(&mut self, now: u64, date: u64) -> Result<Next, Stop>
         ensures ticks { (leader : Leader) → IsLed D.honest D.contents D.may_leave self.old leader → leader.going ≡ []
-            → IfOk result (λ r. MatchOption r (IsLed D.honest D.contents D.may_leave self.new leader)
+            → IfOk result (λ r. MatchNext r
             (λ due. (next : Leader) × TicksMeter leader due.meter next × IsLed D.honest D.contents D.may_leave self.new next
-            × IsAboutToSend next due.to (bytes_of due.datagrams.items))) }
+            × IsAboutToSend next due.to (bytes_of due.datagrams.items))
+            (IsLed D.honest D.contents D.may_leave self.new leader)) }
+
+        // It asks only rows that the plan lets it ask.
+        ensures plan { (leader : Leader) → IsLed D.honest D.contents D.may_leave self.old leader
+            → IfOk result (λ r. IfAsks r (λ due. IsAskedAs self.old now date due self.new)) }
+
+        // A row waits, and a meter is silent, only by the plan.
+        ensures held { IfOk result (λ r. IfWaits r (IsWaitedFor self.new date)) }
+        ensures silent { IfOk result (λ r. IfSilent r (IsSilent self.new now)) }
+        ensures contacts { IfOk result (λ r. MatchNext r (λ due. Unit {0}) (contacts_of self.new ≡ contacts_of self.old)) }
+        ensures same_plan { plan_of self.new ≡ plan_of self.old }
 
         // Nothing is sent that the book on the device doesn't offer.
         ensures permitted { (synced : Contents) → Holds D.honest D.contents D.may_leave (kept_of self.old) synced
-            → IfOk result (λ r. IfSome r (λ due. All (IsOfferedIn synced) (bytes_of due.datagrams.items))) }
-        ensures flight { IfOk result (λ r. IfSome r (λ due. out_of self.new ≤ most_out (flight_of self.old))) }
+            → IfOk result (λ r. IfAsks r (λ due. All (IsOfferedIn synced) (bytes_of due.datagrams.items))) }
+        ensures flight { IfOk result (λ r. IfAsks r (λ due. out_of self.new ≤ most_out (flight_of self.old))) }
 
         // A meter is asked that may be asked at this time.
         ensures asked { (leader : Leader) → IsLed D.honest D.contents D.may_leave self.old leader
-            → IfOk result (λ r. IfSome r (λ due. IsAskedBy now self.old (record { meter = due.meter; address = due.to }))) }
+            → IfOk result (λ r. IfAsks r (λ due. IsAskedBy now self.old (record { meter = due.meter; address = due.to }))) }
 
         // And it is waited for an answer since then.
-        ensures waits { (leader : Leader) → IsLed D.honest D.contents D.may_leave self.old leader → IfOk result (λ r. IfSome r (λ due.
+        ensures waits { (leader : Leader) → IsLed D.honest D.contents D.may_leave self.old leader → IfOk result (λ r. IfAsks r (λ due.
             IsOutSince now (length due.datagrams.items) self.new (record { meter = due.meter; address = due.to }))) }
-        ensures counts { IfOk result (λ r. MatchOption r (counted_of self.new ≡ counted_of self.old) (λ due. counted_of self.new
-            ≡ record (counted_of self.old) { sent = min ((counted_of self.old).sent + length due.datagrams.items) greatest })) }
+        ensures counts { IfOk result (λ r. MatchNext r (λ due. counted_of self.new
+            ≡ record (counted_of self.old) { sent = min ((counted_of self.old).sent + length due.datagrams.items) greatest })
+            (counted_of self.new ≡ counted_of self.old)) }
         ensures counts_err { OnErr result (counted_of self.new ≡ counted_of self.old) }
         ensures since { since_of self.new ≡ since_of self.old }
 
@@ -238,10 +300,10 @@ impl<D: JournalDevice + Drop> HeadDaemon<D> {
         ensures resends { (leader : Leader) → IsLed D.honest D.contents D.may_leave self.old leader
             → OnOk result (IsMore (counts_of self.old).resends (resent_at now self.old) (counts_of self.new).resends) }
 
-        // Nothing is sent only if no meter may be asked at this time, or too much is out.
+        // No row is the next only if no meter may be asked at this time, or too much is out.
         ensures none { (leader : Leader) → IsLed D.honest D.contents D.may_leave self.old leader
-            → IfOk result (λ r. IfNone r (((place : ℕ) → ¬ IsDueBy now self.old place) ⊎ ¬ HasRoom (out_at now self.old) (flight_of self.old))) }
-        ensures queue { IfOk result (λ r. IfNone r ((queue_of self.new ≡ []) ⊎ ¬ HasRoom (out_of self.new) (flight_of self.new))) }
+            → IfOk result (λ r. IfNobody r (((place : ℕ) → ¬ IsDueBy now self.old place) ⊎ ¬ HasRoom (out_at now self.old) (flight_of self.old))) }
+        ensures queue { IfOk result (λ r. IfNobody r ((queue_of self.new ≡ []) ⊎ ¬ HasRoom (out_of self.new) (flight_of self.new))) }
 
         // A meter that may be asked is in the queue, once.
         ensures queued { (leader : Leader) → IsLed D.honest D.contents D.may_leave self.old leader
@@ -252,20 +314,124 @@ impl<D: JournalDevice + Drop> HeadDaemon<D> {
         ensures memory { IfErr result (λ stop. stop ≡ Stop.OutOfMemory) }
     {
         let Some(place) = self.schedule.next(now)? else {
-            return Ok(None);
+            return Ok(Next::Nobody);
         };
         let Some(listed) = self.schedule.at(place) else {
             unreachable!();
         };
+        if self.is_silent(place, now) {
+            return Ok(Next::Silent(listed));
+        }
+        if !self.is_let(listed.meter, date) {
+            self.schedule.hold(place, now)?;
+            return Ok(Next::Waits);
+        }
         let datagrams = self.kept.tick(self.alloc, listed.meter)?;
         let count = datagrams.len() as u64;
         self.schedule.sent(place, now, count)?;
+        self.contacts.asked(place, now);
         add(&mut self.counts.sent, count);
-        Ok(Some(Due {
+        Ok(Next::Asks(Due {
             meter: listed.meter,
             to: listed.address,
             datagrams,
         }))
+    }
+
+    /// Whether the window lets the row of a meter be asked at this date.
+    fn is_let(&self, meter: MeterId, date: u64) -> bool
+        ensures { IsTrue result ↔ IsLet self.now date meter }
+    {
+        let activates = self.kept.head().activates(meter);
+        self.plan.window.lets(date, activates)
+    }
+
+    /// Whether the meter at this place of the list is silent for too long.
+    fn is_silent(&self, place: usize, now: u64) -> bool
+        ensures { IsTrue result ↔ IsSilentAt self.now now place }
+    {
+        let contact = self.contacts.at(place);
+        self.plan
+            .deadline
+            .gives_up(RowState::Live, contact, seconds_of(now))
+    }
+
+    /// Gives up the live row of the meter at this address, if the meter is silent for too long at this time, and returns whether it was given
+    /// up. It ended `at` these seconds since 1970 began (UTC), and is put on the device and reported as one that failed.
+    ///
+    /// # Errors
+    ///
+    /// `OutOfMemory` alone. A row may have ended then whose mark isn't on the device and never will be.
+    pub fn give_up(&mut self, now: u64, at: u64, address: SocketAddr) -> Result<bool, Stop>
+        ensures gives_up { (leader : Leader) → IsLed D.honest D.contents D.may_leave self.old leader → IfOk result (λ given_up. MatchBool given_up
+            ((next : Leader) × GivesUpAt leader address at next × IsLed D.honest D.contents D.may_leave self.new next)
+            (self.new ≡ self.old)) }
+
+        // Only a meter that is silent for too long, and each such one.
+        ensures silent { (leader : Leader) → IsLed D.honest D.contents D.may_leave self.old leader
+            → IfOk result (λ given_up. IsTrue given_up → (meter : ℕ) × IsSilent self.old now (record { meter = meter; address = address })) }
+        ensures none { (leader : Leader) → IsLed D.honest D.contents D.may_leave self.old leader
+            → IfOk result (λ given_up. given_up ≡ false → GivesUpNone self.old now address) }
+
+        // That it ended at this time, and since its meter is silent, is noted beside the book.
+        ensures ended { OnOk result (EndsOneAt at self.old self.new) }
+        ensures since { IfOk result (λ given_up. IsTrue given_up → since_of self.new ≡ since_with now (ended_of self.old) (since_of self.old)) }
+        ensures counts { counted_of self.new ≡ counted_of self.old }
+        ensures resends { OnOk result ((counts_of self.new).resends ≡ (counts_of self.old).resends) }
+        ensures contacts { contacts_of self.new ≡ contacts_of self.old }
+        ensures plan { plan_of self.new ≡ plan_of self.old }
+        ensures memory { IfErr result (λ stop. stop ≡ Stop.OutOfMemory) }
+    {
+        fw_book::laws::states_follow();
+        // For its clauses alone: the live rows are those of the book.
+        let _view = self.kept.head().view();
+        let Some((place, meter)) = place_of(&self.schedule, address) else {
+            return Ok(false);
+        };
+        if !self.is_silent(place, now) || !self.has_row(meter) {
+            return Ok(false);
+        }
+        make_room(&mut self.ended, true)?;
+        let why = WhyGivenUp::Silent;
+        let Some(given) = self.kept.give_up(self.alloc, meter, why, at)? else {
+            unreachable!();
+        };
+        let end = End {
+            at,
+            reason: Some(given.reason),
+        };
+        self.end_row(place, now, given.campaign, meter, Ending::Failed, end)?;
+        Ok(true)
+    }
+
+    /// Asks the meters of another list from now on, of which none was asked yet. What ended meanwhile and what was counted stays.
+    ///
+    /// # Errors
+    ///
+    /// `OutOfMemory` alone. All is as it was then.
+    pub fn relist(&mut self, meters: &MeterList) -> Result<(), Stop>
+        ensures led { (leader : Leader) → IsLed D.honest D.contents D.may_leave self.old leader
+            → OnOk result (IsLed D.honest D.contents D.may_leave self.new (with_meters meters.now leader)) }
+        ensures meters { OnOk result (meters_of self.new ≡ meters.now) }
+        ensures contacts { OnOk result (contacts_of self.new ≡ replicate (length meters.now) no_contact) }
+        ensures kept { kept_of self.new ≡ kept_of self.old }
+        ensures timing { timing_of self.new ≡ timing_of self.old }
+        ensures plan { plan_of self.new ≡ plan_of self.old }
+        ensures ended { ended_of self.new ≡ ended_of self.old }
+        ensures since { since_of self.new ≡ since_of self.old }
+        ensures counts { counted_of self.new ≡ counted_of self.old }
+        ensures resends { (counts_of self.new).resends ≡ (counts_of self.old).resends }
+        ensures same { OnErr result (self.new ≡ self.old) }
+        ensures memory { IfErr result (λ stop. stop ≡ Stop.OutOfMemory) }
+    {
+        let list = meters.meters();
+        let timing = self.schedule.timing();
+        let mut schedule = schedule_of(self.alloc, self.kept.head(), list, timing)?;
+        let contacts = Contacts::new(self.alloc, list.len())?;
+        schedule.count_on(self.schedule.resends());
+        self.schedule = schedule;
+        self.contacts = contacts;
+        Ok(())
     }
 
     /// Hears a datagram that came from an address at this time, as from the meter that has the address in the list. A row that it ends did so
@@ -299,6 +465,11 @@ impl<D: JournalDevice + Drop> HeadDaemon<D> {
             ≡ record (counted_of self.old) { received = one_more (counted_of self.old).received }) }
         ensures resends { OnOk result ((counts_of self.new).resends ≡ (counts_of self.old).resends) }
 
+        // Whatever its bytes are, a datagram of a meter of the list says that it isn't silent.
+        ensures contacts { (leader : Leader) → IsLed D.honest D.contents D.may_leave self.old leader
+            → IfOk result (λ what. NotesContact what now from self.old self.new) }
+        ensures plan { plan_of self.new ≡ plan_of self.old }
+
         // Memory is refused for a datagram of a listed meter alone, which has a live row.
         ensures listed { (leader : Leader) → IsLed D.honest D.contents D.may_leave self.old leader
             → OnErr result ((meter : ℕ) × IsListed leader meter from × HasLiveRow leader meter) }
@@ -313,6 +484,7 @@ impl<D: JournalDevice + Drop> HeadDaemon<D> {
             return Ok(Heard::Stranger);
         };
         count(&mut self.counts.received);
+        self.contacts.heard(place, now);
         let has_row = self.has_row(meter);
         make_room(&mut self.ended, has_row)?;
         let Told { news, reason } = self.kept.hear(self.alloc, meter, datagram, at)?;
@@ -377,6 +549,8 @@ impl<D: JournalDevice + Drop> HeadDaemon<D> {
         ensures resends { self.new.schedule.resends ≡ self.old.schedule.resends }
         ensures meters { EndsMeter place self.old.schedule self.new.schedule }
         ensures schedule { IsSchedule self.old.schedule → IsSchedule self.new.schedule }
+        ensures contacts { contacts_of self.new ≡ contacts_of self.old }
+        ensures plan { plan_of self.new ≡ plan_of self.old }
         ensures memory { IfErr result (λ stop. stop ≡ Stop.OutOfMemory) }
     {
         self.schedule.end(place);
@@ -416,6 +590,7 @@ impl<D: JournalDevice + Drop> HeadDaemon<D> {
         ensures counts_err { OnErr result (counted_of self.new ≡ counted_of self.old) }
         ensures resends { (counts_of self.new).resends ≡ (counts_of self.old).resends }
         ensures since { since_of self.new ≡ since_of self.old }
+        ensures knows { KnowsSame self.old self.new }
         ensures stops { IfErr result IsSaveStop }
 
         // The causes of a commit that is refused.
@@ -439,6 +614,13 @@ impl<D: JournalDevice + Drop> HeadDaemon<D> {
         ensures ran_out { IsTrue result ↔ HasRunOut self.now }
     {
         self.schedule.live() == 0 && self.ended.is_empty()
+    }
+
+    /// The head end in memory, with the marks that wait.
+    pub fn head(&self) -> &HeadCore
+        ensures { result.now ≡ head_of (kept_of self.now) }
+    {
+        self.kept.head()
     }
 
     /// The device that the book is on.

@@ -2,24 +2,28 @@
 //! port.
 #![tactic(auto)]
 
+mod contacts;
 mod daemon;
 mod early;
 mod ended;
 mod error;
+pub mod laws;
 mod link;
 mod list;
 mod meters;
+mod plan;
 mod port;
 mod schedule;
 mod serving;
 mod timing;
 
-pub use daemon::{Counts, Due, HeadDaemon, Heard};
+pub use daemon::{Counts, Due, HeadDaemon, Heard, Next};
 pub use ended::Ended;
 pub use error::Stop;
 pub use link::Listed;
 pub use list::lead_list;
 pub use meters::MeterList;
+pub use plan::Plan;
 pub use port::HeadPort;
-pub use serving::{HeadWatch, serve_head, step_head};
+pub use serving::{HeadWatch, Leg, serve_head, serve_plan, step_head};
 pub use timing::{FIRST_PAUSE, LONGEST_PAUSE, LONGEST_WAIT, MAX_TICK, Timing};

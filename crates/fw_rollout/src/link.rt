@@ -6,6 +6,7 @@ ghost use Rattle.fw_rollout.specs.Link.{
   IsSent,
   IsAnswered,
   IsGivenUp,
+  IsHeld,
   IsReady,
   IsLiveLink,
   is_paused,
@@ -15,7 +16,7 @@ ghost use Rattle.fw_rollout.specs.Link.{
   until_of,
 };
 
-use crate::timing::{FIRST_PAUSE, lengthened, longer, wait_after};
+use crate::timing::{FIRST_PAUSE, LONGEST_PAUSE, lengthened, longer, wait_after};
 use fw_names::MeterId;
 use std::net::SocketAddr;
 
@@ -39,7 +40,8 @@ pub(crate) enum Turn {
     Awaited { until: u64 },
     /// What was sent was given up, and nothing at all came. The row is ticked again at this time.
     Silent { until: u64 },
-    /// All was answered, and the meter isn't ready for what it was asked. The row is ticked again at this time.
+    /// All was answered, and the meter isn't ready for what it was asked, or the row may not be asked what is next. It is looked at again at this
+    /// time.
     Paused { until: u64 },
 }
 
@@ -183,6 +185,15 @@ impl Link {
         self.is_heard = false;
         self.turn = Turn::Awaited {
             until: now.saturating_add(self.wait),
+        };
+    }
+
+    /// The row may not be asked now. It is looked at again after the longest pause.
+    pub(crate) fn held(&mut self, now: u64)
+        ensures { IsHeld now self.old self.new }
+    {
+        self.turn = Turn::Paused {
+            until: now.saturating_add(LONGEST_PAUSE),
         };
     }
 

@@ -17,7 +17,8 @@ pub trait HeadPort: Port<Ended> {
     fn now(&self) -> u64
         ensures { IsTrue (Self.honest self.now) → result ≡ Self.time self.now };
 
-    /// The date, in seconds since 1970 began (UTC). Nothing is known of it: it is noted of rows that end.
+    /// The date, in seconds since 1970 began (UTC). Nothing is known of it, and it may jump: it is noted of rows that end, and images are
+    /// activated by it.
     fn date(&self) -> u64;
 
     /// Reports a row that ended, which has to be legal after all that was done. A report that can't be made is lost.

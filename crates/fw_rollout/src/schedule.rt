@@ -29,6 +29,7 @@ ghost use Rattle.fw_rollout.specs.Schedule.{
   EndsMeter,
   GivesUp,
   HasAddress,
+  Holds,
   IsDueAt,
   IsFirst,
   IsLiveAt,
@@ -133,6 +134,21 @@ impl Schedule {
         ensures { result ≡ self.now.resends }
     {
         self.resends
+    }
+
+    /// Goes on counting from so many times that a row was ticked again.
+    pub(crate) fn count_on(&mut self, resends: u64)
+        ensures others { self.new ≡ record self.old { resends = resends } }
+        ensures schedule { IsSchedule self.old → IsSchedule self.new }
+    {
+        self.resends = resends;
+    }
+
+    /// How it waits for answers.
+    pub(crate) fn timing(&self) -> Timing
+        ensures { result ≡ self.now.timing }
+    {
+        self.timing
     }
 
     /// The place of the link with this address.
@@ -281,6 +297,29 @@ impl Schedule {
         let until = link.until();
         self.ready.pop_front();
         self.out = self.out.saturating_add(count);
+        self.wait(place, until)?;
+        Ok(())
+    }
+
+    /// The row of the link at this place, which is the next, may not be asked now. It waits.
+    ///
+    /// # Errors
+    ///
+    /// `AllocError` if memory was refused. What is left then is unspecified.
+    pub(crate) fn hold(&mut self, place: usize, now: u64) -> Result<(), AllocError>
+        ensures held { OnOk result (Holds place now self.old self.new) }
+        ensures timing { OnOk result (self.new.timing ≡ self.old.timing) }
+        ensures out { OnOk result (self.new.out ≡ self.old.out) }
+        ensures resends { OnOk result (self.new.resends ≡ self.old.resends) }
+        ensures same { IsDueAt self.old place → OnOk result (SameMeters self.old self.new) }
+        ensures schedule { IsSchedule self.old → IsDueAt self.old place → IsFirst self.old place → OnOk result (IsSchedule self.new) }
+    {
+        let Some(link) = self.links.get_mut(place) else {
+            return Ok(());
+        };
+        link.held(now);
+        let until = link.until();
+        self.ready.pop_front();
         self.wait(place, until)?;
         Ok(())
     }

@@ -1,16 +1,20 @@
 //! The loop of a head end over a port. A port asks at each send and each report whether it may be, so a loop that never ends is held to it
 //! too.
 
-ghost use Rattle.std.specs.Prelude.{◌≡◌, ◌++◌, [], List, IsTrue, OnOk, false};
+ghost use Rattle.std.specs.Prelude.{◌≡◌, ◌++◌, ◌∷◌, [], List, None, IfOk, IfSome, IsTrue, OnOk, false, if◌then◌else◌};
+ghost use Rattle.fw_port.specs.Acts.{quiet};
 ghost use Rattle.fw_head.specs.Row.{bytes_of};
 ghost use Rattle.fw_rollout.specs.Acts.{Act};
-ghost use Rattle.fw_rollout.specs.Counting.{TellsRows, told_in};
+ghost use Rattle.fw_rollout.specs.Counting.{TellsCounted, TellsRows, counted_of, told_in};
 ghost use Rattle.fw_rollout.specs.Leading.{IsAboutToSend, IsAboutToTell, Leader, Leads, MayLead};
 ghost use Rattle.fw_rollout.specs.Daemon.{HasRunOut, IsLed, IsOver, LeadsOver, MayLeadOver, NoneDue};
+ghost use Rattle.fw_rollout.specs.Legs.{IfOver, IfSilent, WasSilent};
+ghost use Rattle.fw_rollout.specs.Plans.{KnowsSame};
 
-use crate::daemon::{Counts, HeadDaemon};
+use crate::daemon::{Counts, HeadDaemon, Next};
 use crate::ended::Ended;
 use crate::error::Stop;
+use crate::link::Listed;
 use crate::port::HeadPort;
 use fw_journal::JournalDevice;
 use fw_port::{MAX_RECEIVED, Patience};
@@ -20,6 +24,33 @@ use std::sync::Wait;
 /// The most rows that are ticked between two receives.
 const MAX_TICKS: usize = 64;
 
+/// Why a head end leads no further for now.
+#[derive(Clone, Copy, Debug)]
+pub enum Leg {
+    /// No row is live, and all that ended is on the device.
+    Over,
+    /// This meter is silent for too long, and nothing came in time. Its row is to be given up.
+    Silent(Listed),
+}
+
+/// What comes of the rows that are due.
+#[derive(Clone, Copy)]
+struct Sent {
+    /// Whether a datagram may be waited for.
+    patience: Patience,
+    /// The meter that is silent for too long, if one is. No further row was asked then.
+    silent: Option<Listed>,
+}
+
+impl Sent {
+    /// The meter that is silent for too long, if one is and no datagram came.
+    fn silent_unless(self, came: bool) -> Option<Listed>
+        ensures { result ≡ (if came then None else self.silent) }
+    {
+        if came { None } else { self.silent }
+    }
+}
+
 /// What looks at a head end while it leads.
 pub trait HeadWatch {
     /// It is called after each round, with the time in microseconds, how far the head end is, how often the port failed, and
@@ -28,7 +59,8 @@ pub trait HeadWatch {
 }
 
 /// One round: what is due is sent, of [`MAX_TICKS`] rows at most, a datagram is received and heard, and the rows that ended are put on the
-/// device and reported, where it is time. If nothing else is due, it is waited for the datagram.
+/// device and reported, where it is time. If nothing else is due, it is waited for the datagram. It returns the meter that is silent for too
+/// long, if one is and no datagram came: nothing that it may have sent waits in the port then.
 ///
 /// # Errors
 ///
@@ -37,12 +69,13 @@ pub trait HeadWatch {
 pub fn step_head<P: HeadPort, D: JournalDevice + Drop>(
     port: &mut P,
     daemon: &mut HeadDaemon<D>,
-) -> Result<(), Stop>
+) -> Result<Option<Listed>, Stop>
     requires begins { MayLeadOver P.Port D.JournalDevice port.old daemon.old }
     ensures leads { LeadsOver P.Port D.JournalDevice port.old daemon.old result port.new daemon.new }
 
     // By the time of the port, no marks wait that are due.
     ensures saves { IsTrue (P.honest port.old) → OnOk result (NoneDue D.JournalDevice (P.time port.new) daemon.new) }
+    ensures silent { IfOk result (λ silent. IfSome silent (WasSilent daemon.new)) }
 {
     let mut now = port.now();
     let mut buffer = [0u8; MAX_RECEIVED];
@@ -56,34 +89,54 @@ fn step_with<P: HeadPort, D: JournalDevice + Drop>(
     daemon: &mut HeadDaemon<D>,
     now: &mut u64,
     buffer: &mut [u8],
-) -> Result<(), Stop>
+) -> Result<Option<Listed>, Stop>
     requires begins { MayLeadOver P.Port D.JournalDevice port.old daemon.old }
     ensures leads { LeadsOver P.Port D.JournalDevice port.old daemon.old result port.new daemon.new }
 
     // By the time of the port, no marks wait that are due.
     ensures saves { IsTrue (P.honest port.old) → OnOk result (NoneDue D.JournalDevice (P.time port.new) daemon.new) }
+    ensures silent { IfOk result (λ silent. IfSome silent (WasSilent daemon.new)) }
 {
-    let patience = send_due(port, daemon, *now)?;
-    receive(port, daemon, patience, now, buffer)?;
-    tell_saved(port, daemon, now)
+    let sent = send_due(port, daemon, *now)?;
+    let came = receive(port, daemon, sent.patience, now, buffer)?;
+    tell_saved(port, daemon, now)?;
+    Ok(sent.silent_unless(came))
 }
 
-/// Sends what is due at this time, of [`MAX_TICKS`] rows at most. It returns whether a datagram may be waited for then.
+/// Sends what is due at this time, of [`MAX_TICKS`] rows at most, up to a meter that is silent for too long.
 fn send_due<P: HeadPort, D: JournalDevice + Drop>(
     port: &mut P,
     daemon: &mut HeadDaemon<D>,
     now: u64,
-) -> Result<Patience, Stop>
+) -> Result<Sent, Stop>
     requires begins { MayLeadOver P.Port D.JournalDevice port.old daemon.old }
     ensures leads { LeadsOver P.Port D.JournalDevice port.old daemon.old result port.new daemon.new }
+    ensures silent { IfOk result (λ sent. IfSome sent.silent (WasSilent daemon.new)) }
 {
+    let date = port.date();
     for _ in 0..MAX_TICKS {
-        match daemon.due(now)? {
-            Some(due) => send_all(port, due.to, &due.datagrams),
-            None => return Ok(Patience::Waits),
+        let next = daemon.due(now, date)?;
+        match next {
+            Next::Silent(at) => {
+                return Ok(Sent {
+                    patience: Patience::Polls,
+                    silent: Some(at),
+                });
+            }
+            Next::Nobody => {
+                return Ok(Sent {
+                    patience: Patience::Waits,
+                    silent: None,
+                });
+            }
+            Next::Asks(due) => send_all(port, due.to, &due.datagrams),
+            Next::Waits => continue,
         }
     }
-    Ok(Patience::Polls)
+    Ok(Sent {
+        patience: Patience::Polls,
+        silent: None,
+    })
 }
 
 /// Sends these datagrams to an address, in their order.
@@ -102,26 +155,30 @@ fn send_all<P: HeadPort>(port: &mut P, to: SocketAddr, datagrams: &[Vec<u8>])
     }
 }
 
-/// Receives a datagram, if one comes in time, and hears it. The time is that of the receive then.
+/// Receives a datagram, if one comes in time, and hears it. The time is that of the receive then. It returns whether one came.
 fn receive<P: HeadPort, D: JournalDevice + Drop>(
     port: &mut P,
     daemon: &mut HeadDaemon<D>,
     patience: Patience,
     now: &mut u64,
     buffer: &mut [u8],
-) -> Result<(), Stop>
+) -> Result<bool, Stop>
     requires begins { MayLeadOver P.Port D.JournalDevice port.old daemon.old }
     ensures leads { LeadsOver P.Port D.JournalDevice port.old daemon.old result port.new daemon.new }
     ensures time { IsTrue (P.honest port.old) → OnOk result (now.new ≡ P.time port.new) }
+
+    // What came to an honest port is the last act, or else that nothing came.
+    ensures came { IsTrue (P.honest port.old) → IfOk result (λ came. came ≡ false → P.acts port.new ≡ quiet ∷ P.acts port.old) }
+    ensures nothing { IfOk result (λ came. came ≡ false → daemon.new ≡ daemon.old) }
 {
     let Some(arrival) = port.receive(patience, buffer)? else {
         *now = port.now();
-        return Ok(());
+        return Ok(false);
     };
     *now = port.now();
     let date = port.date();
     daemon.heard(*now, date, arrival.from, &buffer[..arrival.count])?;
-    Ok(())
+    Ok(true)
 }
 
 /// Puts the rows that ended on the device, where this is the time for it, and reports them then. That takes its time, so the clock is read
@@ -135,6 +192,7 @@ fn tell_saved<P: HeadPort, D: JournalDevice + Drop>(
     requires time { IsTrue (P.honest port.old) → now.old ≡ P.time port.old }
     ensures leads { LeadsOver P.Port D.JournalDevice port.old daemon.old result port.new daemon.new }
     ensures saves { OnOk result (NoneDue D.JournalDevice now.new daemon.new) }
+    ensures knows { KnowsSame daemon.old daemon.new }
     ensures time { IsTrue (P.honest port.old) → OnOk result (now.new ≡ P.time port.new) }
 {
     if !daemon.is_save_due(*now) {
@@ -162,7 +220,8 @@ fn tell_all<P: HeadPort>(port: &mut P, saved: &[Ended])
     }
 }
 
-/// Leads the rows to their ends. It returns `Ok` once none is live and all that ended is on the device, and never if it stays.
+/// Leads the rows to their ends. It returns `Over` once none is live and all that ended is on the device, and never if it stays, and `Silent`
+/// once a meter is silent for too long.
 ///
 /// # Errors
 ///
@@ -173,25 +232,61 @@ pub fn serve_head<R: Wait, P: HeadPort, D: JournalDevice + Drop, W: HeadWatch>(
     daemon: &mut HeadDaemon<D>,
     stays: bool,
     watch: &mut W,
-) -> Result<(), Stop>
+) -> Result<Leg, Stop>
     requires begins { MayLeadOver P.Port D.JournalDevice port.old daemon.old }
     ensures leads { LeadsOver P.Port D.JournalDevice port.old daemon.old result port.new daemon.new }
 
-    // It returns by itself only once no row is live and all that ended is on the device, and never if it stays.
-    ensures over { (now : Leader) → IsLed D.honest D.contents D.may_leave daemon.new now → OnOk result (IsOver now) }
-    ensures stays { OnOk result (stays ≡ false) }
+    // All is over only once no row is live and all that ended is on the device, and never if it stays.
+    ensures over { (now : Leader) → IsLed D.honest D.contents D.may_leave daemon.new now → IfOk result (λ leg. IfOver leg (IsOver now)) }
+    ensures stays { IfOk result (λ leg. IfOver leg (stays ≡ false)) }
+    ensures silent { IfOk result (λ leg. IfSilent leg (WasSilent daemon.new)) }
 
     // Whatever is known of the device: no link is live, and nothing waits to be put on it.
-    ensures ran_out { OnOk result (HasRunOut daemon.new) }
+    ensures ran_out { IfOk result (λ leg. IfOver leg (HasRunOut daemon.new)) }
 {
     let mut now = port.now();
     let mut buffer = [0u8; MAX_RECEIVED];
     for _ in rt.forever() {
         if daemon.is_over() && !stays {
-            return Ok(());
+            return Ok(Leg::Over);
         }
-        step_with(port, daemon, &mut now, &mut buffer)?;
+        let silent = step_with(port, daemon, &mut now, &mut buffer)?;
         watch.round(now, daemon.counts(), port.faults(), port.unopened());
+        if let Some(at) = silent {
+            return Ok(Leg::Silent(at));
+        }
+    }
+    unreachable!()
+}
+
+/// Leads the rows to their ends, as `serve_head`, and gives up each whose meter is silent for too long. It returns `Ok` once none is live and
+/// all that ended is on the device, and never if it stays. It is for ports that nothing is known of: a row that is given up is no step of a head
+/// end that leads.
+///
+/// # Errors
+///
+/// Those of `step_head`.
+pub fn serve_plan<R: Wait, P: HeadPort, D: JournalDevice + Drop, W: HeadWatch>(
+    rt: &R,
+    port: &mut P,
+    daemon: &mut HeadDaemon<D>,
+    stays: bool,
+    watch: &mut W,
+) -> Result<(), Stop>
+    requires unknown { P.honest port.old ≡ false }
+    ensures honesty { P.honest port.new ≡ false }
+
+    // What was reported is what was counted as done and as given up.
+    ensures tells { TellsCounted P.tells port.old port.new (counted_of daemon.old) (counted_of daemon.new) }
+    ensures over { (now : Leader) → IsLed D.honest D.contents D.may_leave daemon.new now → OnOk result (IsOver now) }
+    ensures stays { OnOk result (stays ≡ false) }
+    ensures ran_out { OnOk result (HasRunOut daemon.new) }
+{
+    for _ in rt.forever() {
+        let Leg::Silent(at) = serve_head(rt, port, daemon, stays, watch)? else {
+            return Ok(());
+        };
+        daemon.give_up(port.now(), port.date(), at.address)?;
     }
     unreachable!()
 }

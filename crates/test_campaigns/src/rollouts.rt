@@ -1,9 +1,12 @@
 //! The daemon of a head end leads two meters: as a value, and over a port in memory.
 
-use crate::setting::{coming, listed, new_daemon, number_of, push_ended};
+use crate::setting::{coming, listed, new_daemon, number_of, planned_daemon, push_ended};
 use crate::subject::Subject;
+use fw_plan::{Deadline, Window};
 use fw_port::{Arrival, Closed, Datagram, Deed, Patience, Port};
-use fw_rollout::{Counts, Ended, HeadPort, HeadWatch, MeterList, Stop, lead_list, step_head};
+use fw_rollout::{
+    Counts, Ended, HeadPort, HeadWatch, Leg, MeterList, Plan, Stop, lead_list, step_head,
+};
 use std::alloc::Global;
 use std::net::SocketAddr;
 use std::test::Fail;
@@ -142,6 +145,78 @@ fn daemon_leads_two_meters(rt: HostRuntime) -> Result<(), Fail> {
     Ok(())
 }
 
+/// Meter 1 has verified the image, and waits until the date 900. It is looked at again after half a second.
+const WAITS: &str = "
+    at 108000 899 => (1, 1) c301c6001200002c0000ff03010f00
+    comes 109000 1 c701c60000 => Moved
+    at 109000 899 => (1, 1) c001c7001200002c0000ff0700
+    comes 110000 1 c401c7000101020306000000030929010000000700000001ba7816bf8f01cfea414140de5dae2223b00361a396177a9cb410ff61f20015ad0920ba7816bf8f01cfea414140de5dae2223b00361a396177a9cb410ff61f20015ad => Moved
+    at 110000 899 => waits
+    at 110000 899 =>
+    at 609999 900 =>
+    at 610000 899 => waits
+    at 1109999 900 =>
+    at 1110000 900 => (1, 1) c301c8001200002c0000ff04010f00
+    counts => Counts { live: 1, done: 0, failed: 1, sent: 10, received: 10, resends: 0, strangers: 1 }
+";
+
+/// Meter 2 is silent for an hour since it was asked first. Whatever comes from meter 1, it isn't.
+const IS_SILENT: &str = "
+    due 0                                => (1, 1) c001c0001200002c0000ff0200
+    due 0                                => (2, 2) c001c0001200002c0000ff0200
+    gives-up 3599999999 2                => false
+    comes 3599999999 1 00                => Nothing
+    due 3600000000                       => (1, 1) c001c1001200002c0000ff0200
+    due 3600000000                       => silent 2
+    due 3600000000                       => silent 2
+    gives-up 3600000000 1                => false
+    gives-up 3600000000 9                => false
+    gives-up 3600000000 2                => true
+    gives-up 3600000000 2                => false
+    due 3600000000                       =>
+    save-due 3600100000                  => true
+    saved                                => 2 Failed End { at: 3600000, reason: Some(Reason { phase: Size, answer: Silent }) };
+    counts                               => Counts { live: 1, done: 0, failed: 1, sent: 3, received: 1, resends: 2, strangers: 0 }
+";
+
+/// First meter 2 alone is asked, and then meter 1. What ended meanwhile, and what was counted, stays.
+const TWO_LISTS: &str = "
+    asks 2                               =>
+    due 0                                => (2, 2) c001c0001200002c0000ff0200
+    due 0                                =>
+    comes 1000 1 c401c0000600000002      => Stranger
+    comes 1000 2 c401c0000600000000      => Ended
+    over                                 => false
+    asks 1                               =>
+    saved                                => 2 Failed End { at: 1, reason: Some(Reason { phase: Size, answer: Number(0) }) };
+    due 1000                             => (1, 1) c001c0001200002c0000ff0200
+    comes 2000 2 c401c0000600000000      => Stranger
+    counts                               => Counts { live: 1, done: 0, failed: 1, sent: 2, received: 1, resends: 0, strangers: 2 }
+";
+
+#[test]
+fn daemon_follows_its_plan(rt: HostRuntime) -> Result<(), Fail> {
+    let alloc = rt.alloc();
+    let from = Plan {
+        window: Window::From(900),
+        ..Plan::FREE
+    };
+    let hour = Plan {
+        deadline: Deadline::Hours(1),
+        ..Plan::FREE
+    };
+    let sessions: &[(Plan, &[&str])] = &[
+        (from, &[FAILS, TAKES, WAITS]),
+        (hour, &[IS_SILENT]),
+        (Plan::FREE, &[TWO_LISTS]),
+    ];
+    for (plan, tables) in sessions {
+        let mut daemon = Subject(planned_daemon(alloc, 64, *plan)?.into_inner());
+        each_part(alloc, &mut daemon, tables)?;
+    }
+    Ok(())
+}
+
 /// A port to which nothing comes. It counts what is sent.
 #[derive(Drop)]
 struct Quiet {
@@ -194,7 +269,8 @@ impl HeadPort for Quiet {
 fn a_round_asks_each_meter(rt: HostRuntime) -> Result<(), Fail> {
     let mut daemon = new_daemon(rt.alloc(), 64)?;
     let mut port = Quiet { sent: 0 };
-    step_head(&mut port, &mut daemon.0)?;
+    let silent = step_head(&mut port, &mut daemon.0)?;
+    assert!(rt; silent.is_none());
     assert_eq!(rt; (port.sent, daemon.0.counts().sent), (2, 2));
     Ok(())
 }
@@ -204,7 +280,7 @@ fn a_round_asks_each_meter(rt: HostRuntime) -> Result<(), Fail> {
 const DEEDS: &str =
     "to 1, to 2, quiet, from 9, from 2, from 2, from 1, to 1, from 1, to 1, from 1, to 1, to 1, from 1, from 1, to 1, \
      from 1, to 1, from 1, to 1, from 1, to 1, from 1, to 1, from 1, \
-     2 Failed End { at: 0, reason: Some(Reason { phase: Size, answer: Number(0) }) };1 Done End { at: 0, reason: None };None";
+     2 Failed End { at: 0, reason: Some(Reason { phase: Size, answer: Number(0) }) };1 Done End { at: 0, reason: None };Ok(Over)";
 
 /// Nothing in time, and then what comes in `FAILS`, `TAKES` and `RUNS`.
 fn all_coming(alloc: Global) -> Result<Vec<Option<Datagram>>, Fail> {
@@ -223,8 +299,12 @@ fn all_coming(alloc: Global) -> Result<Vec<Option<Datagram>>, Fail> {
     Ok(datagrams)
 }
 
-/// The deeds and the stop.
-fn deeds_text(alloc: Global, deeds: &[Deed<Ended>], stop: Option<Stop>) -> Result<String, Fail> {
+/// The deeds, and why nothing more was led.
+fn deeds_text(
+    alloc: Global,
+    deeds: &[Deed<Ended>],
+    led: &Result<Leg, Stop>,
+) -> Result<String, Fail> {
     let mut text = String::new(alloc);
     for deed in deeds {
         match deed {
@@ -234,7 +314,7 @@ fn deeds_text(alloc: Global, deeds: &[Deed<Ended>], stop: Option<Stop>) -> Resul
             Deed::Told(ended) => push_ended(&mut text, ended)?,
         }
     }
-    write!(text, "{stop:?}")?;
+    write!(text, "{led:?}")?;
     Ok(text)
 }
 
@@ -261,8 +341,8 @@ fn daemon_leads_two_meters_over_a_port(rt: HostRuntime) -> Result<(), Fail> {
     };
     let coming = all_coming(alloc)?;
     let mut daemon = new_daemon(alloc, 64)?;
-    let (deeds, stop) = lead_list(&rt, alloc, coming, &mut daemon.0, &mut watch);
-    let text = deeds_text(alloc, &deeds, stop)?;
+    let (deeds, led) = lead_list(&rt, alloc, coming, &mut daemon.0, &mut watch);
+    let text = deeds_text(alloc, &deeds, &led)?;
     expect_at(alloc, "the deeds", text.as_str(), DEEDS)?;
     assert_eq!(rt; (watch.rounds, watch.last), (14, (1, 1, 0)));
     Ok(())

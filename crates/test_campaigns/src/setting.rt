@@ -14,7 +14,7 @@ use crate::subject::Subject;
 use fw_journal::MemoryDevice;
 use fw_kept::KeptHead;
 use fw_port::Datagram;
-use fw_rollout::{Ended, HeadDaemon, Listed, MeterList, Timing};
+use fw_rollout::{Ended, HeadDaemon, Listed, MeterList, Next, Plan, Timing};
 use std::alloc::Global;
 use std::net::{Ipv4Addr, SocketAddr};
 use std::test::Fail;
@@ -22,8 +22,13 @@ use test_tables::{Kept, Reads, Words};
 
 /// What is done with a daemon, or asked of it. Times are in microseconds:
 ///
-/// - `due TIME`: what is sent at this time: the meter, the number of its address, and the APDUs
-/// - `comes TIME ADDRESS APDU`, from the address of this number: what comes of it. The date has a second for each millisecond of the time
+/// - `due TIME`: what is sent at this time: the meter, the number of its address, and the APDUs; or that the next row waits, or that its meter
+///   is silent
+/// - `at TIME DATE`: the same, where this is the date in seconds
+/// - `gives-up TIME ADDRESS`: whether the row of the meter at the address of this number is given up. The date has a second for each
+///   millisecond of the time
+/// - `asks METER..`: these meters are asked from now on, at the addresses of their numbers
+/// - `comes TIME ADDRESS APDU`, from the address of this number: what comes of it. The date is as for `gives-up`
 /// - `save-due TIME`: whether the rows that ended are to be put on the device at this time
 /// - `saved`, which puts them there: which they are
 /// - `over`: whether all is over
@@ -33,7 +38,20 @@ impl Reads for Subject<HeadDaemon<MemoryDevice>> {
         let daemon = &mut self.0;
         let mut words = Words::new(what);
         match words.word()? {
-            "due" => due_text(alloc, daemon, u64::from(words.number()?)),
+            "due" => due_text(alloc, daemon, u64::from(words.number()?), 0),
+            "at" => {
+                let now = u64::from(words.number()?);
+                due_text(alloc, daemon, now, u64::from(words.number()?))
+            }
+            "gives-up" => {
+                let now = words.read::<u64>()?;
+                let given_up = daemon.give_up(now, now / 1000, address(words.read::<u16>()?))?;
+                Ok(format!(in alloc; "{given_up}")?)
+            }
+            "asks" => {
+                relist(alloc, daemon, words.rest())?;
+                Ok(String::new(alloc))
+            }
             "comes" => heard_text(alloc, daemon, words),
             "save-due" => {
                 let is_due = daemon.is_save_due(u64::from(words.number()?));
@@ -51,12 +69,28 @@ fn due_text(
     alloc: Global,
     daemon: &mut HeadDaemon<MemoryDevice>,
     now: u64,
+    date: u64,
 ) -> Result<String, Fail> {
-    let Some(due) = daemon.due(now)? else {
-        return Ok(String::new(alloc));
-    };
-    let apdus = apdus_text(alloc, &due.datagrams)?;
-    Ok(format!(in alloc; "{:?} {apdus}", (due.meter.number(), number_of(due.to)))?)
+    match daemon.due(now, date)? {
+        Next::Asks(due) => {
+            let apdus = apdus_text(alloc, &due.datagrams)?;
+            Ok(format!(in alloc; "{:?} {apdus}", (due.meter.number(), number_of(due.to)))?)
+        }
+        Next::Waits => Ok(format!(in alloc; "waits")?),
+        Next::Silent(at) => Ok(format!(in alloc; "silent {}", at.meter.number())?),
+        Next::Nobody => Ok(String::new(alloc)),
+    }
+}
+
+/// Asks these meters from now on.
+fn relist(alloc: Global, daemon: &mut HeadDaemon<MemoryDevice>, numbers: &str) -> Result<(), Fail> {
+    let mut list = Kept(MeterList::none(alloc));
+    for word in numbers.split(' ') {
+        let number = word.parse::<u16>()?;
+        let _is_new = list.0.add(listed(u32::from(number), number)?)?;
+    }
+    daemon.relist(&list.0)?;
+    Ok(())
 }
 
 fn heard_text(
@@ -143,8 +177,19 @@ fn leading_head(alloc: Global) -> Result<KeptHead<MemoryDevice>, Fail>
     Ok(head)
 }
 
-/// The daemon, which waits for an answer for 0.2 s at first, with this flight.
+/// The daemon, which waits for an answer for 0.2 s at first, with this flight. It activates at any time, and gives no meter up.
 pub(crate) fn new_daemon(alloc: Global, flight: u64) -> Result<Kept<HeadDaemon<MemoryDevice>>, Fail>
+    ensures { IfOk result (λ daemon. (start : Leader) × IsLed (λ _. true) bytes_of leaves daemon.0 start × Rests start) }
+{
+    planned_daemon(alloc, flight, Plan::FREE)
+}
+
+/// The same by this plan.
+pub(crate) fn planned_daemon(
+    alloc: Global,
+    flight: u64,
+    plan: Plan,
+) -> Result<Kept<HeadDaemon<MemoryDevice>>, Fail>
     ensures { IfOk result (λ daemon. (start : Leader) × IsLed (λ _. true) bytes_of leaves daemon.0 start × Rests start) }
 {
     let list = both(alloc)?;
@@ -152,5 +197,5 @@ pub(crate) fn new_daemon(alloc: Global, flight: u64) -> Result<Kept<HeadDaemon<M
         resend: 200_000,
         flight,
     };
-    Ok(Kept(HeadDaemon::new(alloc, leading_head(alloc)?, &list.0, timing)?))
+    Ok(Kept(HeadDaemon::new(alloc, leading_head(alloc)?, &list.0, timing, plan)?))
 }

@@ -1,4 +1,5 @@
 use Rattle.std.proofs.Common.{rules, ◌≡◌, ◌∷◌, Bool, IsTrue, List, take, refl, sym, ap, subst}
+use Rattle.std.proofs.lemmas.Bool.{false≢true}
 use Rattle.fw_port.specs.Acts.{came, quiet}
 use Rattle.fw_rollout.specs.Acts.{Act}
 use Rattle.fw_rollout.specs.Counting.{told_in}
@@ -66,3 +67,18 @@ returns-in_default-clause-time g c = λ honest. c.now.ensures (subst (λ (b : Bo
 
 pub returns-clause-time : goal.returns-clause-time
 returns-clause-time g c = λ honest. c.now-2.ensures (subst (λ (b : Bool). IsTrue b) (sym c.receive.ensures.honesty) honest)
+
+-- ---- whether a datagram came
+
+pub returns-in_default-clause-came : goal.returns-in_default-clause-came
+returns-in_default-clause-came g c = λ honest none.
+    let is : g.P.Port.acts c.receive.new.self ≡ quiet ∷ g.P.Port.acts c.args.port.now = search rules in is
+
+pub returns-in_default-clause-nothing : goal.returns-in_default-clause-nothing
+returns-in_default-clause-nothing g c = λ none. refl
+
+pub returns-clause-came : goal.returns-clause-came
+returns-clause-came g c = λ honest none. absurd (false≢true (sym none))
+
+pub returns-clause-nothing : goal.returns-clause-nothing
+returns-clause-nothing g c = λ none. absurd (false≢true (sym none))

@@ -4,18 +4,16 @@ use Rattle.fw_rollout.proofs.Steps.{may_tick}
 use Rattle.fw_rollout.proofs.Rounds.{at_err, begins_on, follows_none, joined, ticked}
 use Rattle.fw_rollout.proofs.serving.send_due.Goals as goal
 
-pub returns-in_err-due : goal.returns-in_err-due
-returns-in_err-due g c = record {
-  leads = record {
-    leads = λ honest start led rests. search rules;
-    leads_err = λ honest start led rests.
-        let one = c.loop.invariant.0 honest start led rests in
-        at_err c.from_residual.result (one.now, one.leads);
-    counts = λ honest. told_on _ _ _ _ _ _ (c.loop.invariant.3 honest) (told_same _ _ _ _ refl c.in_err-due.ensures.counts_err);
-    tells = counted_on g.P.Port.tells _ _ _ _ _ _ c.loop.invariant.4 (counted_same g.P.Port.tells _ _ _ _ (rows_none g.P.Port.tells _) c.in_err-due.ensures.counts_err);
-    honesty = c.loop.invariant.1;
-    law = c.loop.invariant.2;
-  };
+pub returns-in_err-next-clause-leads : goal.returns-in_err-next-clause-leads
+returns-in_err-next-clause-leads g c = record {
+  leads = λ honest start led rests. search rules;
+  leads_err = λ honest start led rests.
+      let one = c.loop.invariant.0 honest start led rests in
+      at_err c.from_residual.result (one.now, one.leads);
+  counts = λ honest. told_on _ _ _ _ _ _ (c.loop.invariant.3 honest) (told_same _ _ _ _ refl c.in_err-next.ensures.counts_err);
+  tells = counted_on g.P.Port.tells _ _ _ _ _ _ c.loop.invariant.4 (counted_same g.P.Port.tells _ _ _ _ (rows_none g.P.Port.tells _) c.in_err-next.ensures.counts_err);
+  honesty = c.loop.invariant.1;
+  law = c.loop.invariant.2;
 }
 
 pub send_all-requires : goal.send_all-requires
@@ -24,38 +22,51 @@ send_all-requires g c = λ h.
     let honest : IsTrue (g.P.Port.honest c.args.port.now) = subst (λ (b : Bool). IsTrue b) was.1 h in
     let begins = begins_on _ _ _ c.args.daemon.now c.loop.daemon (g.P.Port.legal c.args.port.now) (g.P.Port.legal c.loop.port) _ _ was.2
     (c.requires.begins honest) (was.0 honest) in
-    let made = rw c.in-Some.is at (c.in_ok-due.ensures.ticks begins.leader begins.led begins.rests.sent_all) in
-    (made.0, rw c.deref.ensures.value made.3, may_tick (g.P.Port.legal c.loop.port) begins.leader made.0 c.in-Some.due.meter _ begins.may made.1)
+    let made = rw c.in-Asks.is at (c.in_ok-next.ensures.ticks begins.leader begins.led begins.rests.sent_all) in
+    (made.0, rw c.deref.ensures.value made.3, may_tick (g.P.Port.legal c.loop.port) begins.leader made.0 c.in-Asks.due.meter _ begins.may made.1)
 
-pub returns-in-None : goal.returns-in-None
-returns-in-None g c = record {
-  leads = record {
-    leads = λ honest start led rests.
-        let one = c.loop.invariant.0 honest start led rests in
-        let same = rw c.in-None.is at (c.in_ok-due.ensures.ticks one.now one.led one.rests.sent_all) in
-        record { now = one.now; leads = one.leads; led = same; rests = one.rests };
-    leads_err = λ honest start led rests. tt;
-    counts = λ honest.
-        let same = rw c.in-None.is at c.in_ok-due.ensures.counts in
-        told_on _ _ _ _ _ _ (c.loop.invariant.3 honest) (told_same _ _ _ _ refl same);
-    tells =
-        let same = rw c.in-None.is at c.in_ok-due.ensures.counts in
-        counted_on g.P.Port.tells _ _ _ _ _ _ c.loop.invariant.4 (counted_same g.P.Port.tells _ _ _ _ (rows_none g.P.Port.tells _) same);
-    honesty = c.loop.invariant.1;
-    law = c.loop.invariant.2;
-  };
+pub returns-in-Nobody-clause-leads : goal.returns-in-Nobody-clause-leads
+returns-in-Nobody-clause-leads g c = record {
+  leads = λ honest start led rests.
+      let one = c.loop.invariant.0 honest start led rests in
+      let same = rw c.in-Nobody.is at (c.in_ok-next.ensures.ticks one.now one.led one.rests.sent_all) in
+      record { now = one.now; leads = one.leads; led = same; rests = one.rests };
+  leads_err = λ honest start led rests. tt;
+  counts = λ honest.
+      let same = rw c.in-Nobody.is at c.in_ok-next.ensures.counts in
+      told_on _ _ _ _ _ _ (c.loop.invariant.3 honest) (told_same _ _ _ _ refl same);
+  tells =
+      let same = rw c.in-Nobody.is at c.in_ok-next.ensures.counts in
+      counted_on g.P.Port.tells _ _ _ _ _ _ c.loop.invariant.4 (counted_same g.P.Port.tells _ _ _ _ (rows_none g.P.Port.tells _) same);
+  honesty = c.loop.invariant.1;
+  law = c.loop.invariant.2;
 }
 
-pub returns : goal.returns
-returns g c = record {
-  leads = record {
-    leads = c.loop.invariant.0;
-    leads_err = λ honest start led rests. tt;
-    counts = c.loop.invariant.3;
-    tells = c.loop.invariant.4;
-    honesty = c.loop.invariant.1;
-    law = c.loop.invariant.2;
-  };
+pub returns-in-Silent-clause-leads : goal.returns-in-Silent-clause-leads
+returns-in-Silent-clause-leads g c = record {
+  leads = λ honest start led rests.
+      let one = c.loop.invariant.0 honest start led rests in
+      let same = rw c.in-Silent.is at (c.in_ok-next.ensures.ticks one.now one.led one.rests.sent_all) in
+      record { now = one.now; leads = one.leads; led = same; rests = one.rests };
+  leads_err = λ honest start led rests. tt;
+  counts = λ honest.
+      let same = rw c.in-Silent.is at c.in_ok-next.ensures.counts in
+      told_on _ _ _ _ _ _ (c.loop.invariant.3 honest) (told_same _ _ _ _ refl same);
+  tells =
+      let same = rw c.in-Silent.is at c.in_ok-next.ensures.counts in
+      counted_on g.P.Port.tells _ _ _ _ _ _ c.loop.invariant.4 (counted_same g.P.Port.tells _ _ _ _ (rows_none g.P.Port.tells _) same);
+  honesty = c.loop.invariant.1;
+  law = c.loop.invariant.2;
+}
+
+pub returns-clause-leads : goal.returns-clause-leads
+returns-clause-leads g c = record {
+  leads = c.loop.invariant.0;
+  leads_err = λ honest start led rests. tt;
+  counts = c.loop.invariant.3;
+  tells = c.loop.invariant.4;
+  honesty = c.loop.invariant.1;
+  law = c.loop.invariant.2;
 }
 
 pub loop-init : goal.loop-init
@@ -64,13 +75,13 @@ loop-init g c = (λ honest. follows_none _ _ _ c.args.daemon.now _, refl, λ don
 pub loop-preserved : goal.loop-preserved
 loop-preserved g c =
     let was = c.loop.invariant in
-    let sent = rw c.in-Some.is at c.in_ok-due.ensures.counts in (
+    let sent = rw c.in-Asks.is at c.in_ok-next.ensures.counts in (
       λ honest start led rests.
           let then : IsTrue (g.P.Port.honest c.loop.port) = subst (λ (b : Bool). IsTrue b) (sym was.1) honest in
           let one = was.0 honest start led rests in
-          let made = rw c.in-Some.is at (c.in_ok-due.ensures.ticks one.now one.led one.rests.sent_all) in
+          let made = rw c.in-Asks.is at (c.in_ok-next.ensures.ticks one.now one.led one.rests.sent_all) in
           joined _ _ _ c.loop.daemon c.due.new.self start _ _ _ one
-          (ticked _ _ _ c.due.new.self one.now made.0 c.in-Some.due.meter _ _ one.rests made.1 made.2 (c.send_all.ensures.sends then made.0 (rw c.deref.ensures.value made.3))),
+          (ticked _ _ _ c.due.new.self one.now made.0 c.in-Asks.due.meter _ _ one.rests made.1 made.2 (c.send_all.ensures.sends then made.0 (rw c.deref.ensures.value made.3))),
       c.send_all.ensures.honesty ∙ was.1,
       λ done legal. c.send_all.ensures.law done (was.2 done legal),
       λ honest.
@@ -78,3 +89,23 @@ loop-preserved g c =
           told_on _ _ _ _ _ _ (was.3 honest) (told_sent _ _ _ _ _ (c.send_all.ensures.told then) sent),
       counted_on g.P.Port.tells _ _ _ _ _ _ was.4 (counted_sent g.P.Port.tells _ _ _ _ _ c.send_all.ensures.untold sent),
     )
+
+-- a row waits, and the next one is looked at
+pub loop-preserved-in-Waits : goal.loop-preserved-in-Waits
+loop-preserved-in-Waits g c =
+    let was = c.loop.invariant in
+    let same = rw c.in-Waits.is at c.in_ok-next.ensures.counts in (
+      λ honest start led rests.
+          let one = was.0 honest start led rests in
+          let led_so = rw c.in-Waits.is at (c.in_ok-next.ensures.ticks one.now one.led one.rests.sent_all) in
+          record { now = one.now; leads = one.leads; led = led_so; rests = one.rests },
+      was.1,
+      was.2,
+      λ honest. told_on _ _ _ _ _ _ (was.3 honest) (told_same _ _ _ _ refl same),
+      counted_on g.P.Port.tells _ _ _ _ _ _ was.4 (counted_same g.P.Port.tells _ _ _ _ (rows_none g.P.Port.tells _) same),
+    )
+
+-- ---- the meter that is silent
+
+pub returns-in-Silent-clause-silent : goal.returns-in-Silent-clause-silent
+returns-in-Silent-clause-silent g c = (c.args.now, rw c.in-Silent.is at c.in_ok-next.ensures.silent)

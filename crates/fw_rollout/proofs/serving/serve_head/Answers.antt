@@ -14,7 +14,7 @@ step_with-requires g c = record {
 pub loop-preserved : goal.loop-preserved
 loop-preserved g c =
     let was = c.loop.invariant in
-    let made = c.in_ok-step_with.ensures.leads in (
+    let made = c.in_ok-silent.ensures.leads in (
       search rules,
       search rules,
       λ honest start led rests.
@@ -31,10 +31,10 @@ loop-preserved g c =
 pub loop-init : goal.loop-init
 loop-init g c = (search rules, search rules, λ honest. follows_none _ _ _ c.args.daemon.now _, refl, λ done legal. legal, λ honest. told_same _ _ _ _ refl refl, counted_same g.P.Port.tells _ _ _ _ (rows_none g.P.Port.tells _) refl)
 
-pub returns-in_err-step_with-clause-leads : goal.returns-in_err-step_with-clause-leads
-returns-in_err-step_with-clause-leads g c =
+pub returns-in_err-silent-clause-leads : goal.returns-in_err-silent-clause-leads
+returns-in_err-silent-clause-leads g c =
     let was = c.loop.invariant in
-    let made = c.in_err-step_with.ensures.leads in
+    let made = c.in_err-silent.ensures.leads in
     record {
       leads = λ honest start led rests. search rules;
       leads_err = λ honest start led rests.
@@ -53,3 +53,21 @@ pub returns-then-not-stays-clause-leads : goal.returns-then-not-stays-clause-lea
 returns-then-not-stays-clause-leads g c =
     let was = c.loop.invariant in
     record { leads = was.2; leads_err = λ honest start led rests. tt; counts = was.5; tells = was.6; honesty = was.3; law = was.4 }
+
+-- a meter is silent for too long
+pub returns-in-Some-silent-clause-leads : goal.returns-in-Some-silent-clause-leads
+returns-in-Some-silent-clause-leads g c =
+    let was = c.loop.invariant in
+    let made = c.in_ok-silent.ensures.leads in
+    record {
+      leads = λ honest start led rests.
+          let then : IsTrue (g.P.Port.honest c.loop.port) = subst (λ (b : Bool). IsTrue b) (sym was.3) honest in
+          goes_on _ _ _ c.loop.daemon c.step_with.new.daemon start _ _ _ (was.2 honest start led rests) (made.leads then);
+      leads_err = λ honest start led rests. tt;
+      counts = λ honest.
+          let then : IsTrue (g.P.Port.honest c.loop.port) = subst (λ (b : Bool). IsTrue b) (sym was.3) honest in
+          told_on _ _ _ _ _ _ (was.5 honest) (made.counts then);
+      tells = counted_on g.P.Port.tells _ _ _ _ _ _ was.6 made.tells;
+      honesty = made.honesty ∙ was.3;
+      law = λ done legal. made.law done (was.4 done legal);
+    }

@@ -73,3 +73,14 @@ returns-clause-saves g c = λ leader led due. due.some (led.unsaved ∙ c.in_ok-
 
 pub returns-clause-time : goal.returns-clause-time
 returns-clause-time g c = λ honest. c.now.ensures (subst (λ (b : Bool). IsTrue b) (sym c.tell_all.ensures.honesty) honest)
+
+-- ---- what it knows of its meters stays
+
+pub returns-then-not-is_save_due-clause-knows : goal.returns-then-not-is_save_due-clause-knows
+returns-then-not-is_save_due-clause-knows g c = record { meters = refl; contacts = refl; plan = refl }
+
+pub returns-in_err-saved-clause-knows : goal.returns-in_err-saved-clause-knows
+returns-in_err-saved-clause-knows g c = c.saved.ensures.knows
+
+pub returns-clause-knows : goal.returns-clause-knows
+returns-clause-knows g c = c.saved.ensures.knows

@@ -1,9 +1,10 @@
 use Rattle.std.proofs.Common.{◌≡◌, ℕ, ◌+◌, ◌≤◌, List, Some, length, min, slice_get, refl, sym, ap, subst, ◌∙◌, arith}
+use Rattle.std.proofs.lemmas.Bool.{false≢true}
 use Rattle.fw_rollout.specs.Schedule.{links_of, listed_of}
 use Rattle.fw_rollout.specs.Timing.{max_tick}
 use Rattle.fw_rollout.specs.declared.link.Listed.{Listed}
 use Rattle.fw_rollout.proofs.Lives.{listed_at}
-use Rattle.fw_rollout.proofs.Daemons.{none_live, same_on, ticked_on}
+use Rattle.fw_rollout.proofs.Daemons.{none_live, same_on, ticked_on, waits_on}
 use Rattle.fw_rollout.specs.Counting.{IsMore, greatest}
 use Rattle.fw_rollout.specs.Daemon.{resent_at}
 use Rattle.fw_rollout.proofs.Dues.{due_before, due_lives, none_asked, out_since}
@@ -22,7 +23,63 @@ returns-in_default-clause-none g c = λ leader led.
 pub returns-in_default-clause-queued : goal.returns-in_default-clause-queued
 returns-in_default-clause-queued g c = λ leader led place due. queued_once c.next.new.self place (c.in_ok-place.ensures.schedule led.schedule) due
 
+-- ---- a meter is silent
+
+pub returns-then-is_silent-clause-silent : goal.returns-then-is_silent-clause-silent
+returns-then-is_silent-clause-silent g c = record {
+  place = c.in-Some.place;
+  there = listed_at (links_of c.next.new.self) c.in-Some.place c.in-Some-at.listed (sym c.at.ensures ∙ c.in-Some-at.is);
+  silent = c.is_silent.ensures.0 c.if-is_silent.true;
+}
+
+pub returns-then-is_silent-clause-queued : goal.returns-then-is_silent-clause-queued
+returns-then-is_silent-clause-queued g c = λ leader led place due. queued_once c.next.new.self place (c.in_ok-place.ensures.schedule led.schedule) due
+
+pub returns-then-is_silent-clause-resends : goal.returns-then-is_silent-clause-resends
+returns-then-is_silent-clause-resends g c = λ leader led. c.in_ok-place.ensures.resends led.schedule
+
+-- ---- a row waits
+
+pub returns-then-not-is_let-clause-ticks : goal.returns-then-not-is_let-clause-ticks
+returns-then-not-is_let-clause-ticks g c = λ leader led sent_all.
+    let due = rw c.in-Some.is at c.in_ok-place.ensures.due in
+    let first = rw c.in-Some.is at c.in_ok-place.ensures.first in
+    waits_on g.D.JournalDevice.honest g.D.JournalDevice.contents g.D.JournalDevice.may_leave c.args.self.now _ leader led refl refl
+    (c.in_ok-hold.ensures.schedule (c.in_ok-place.ensures.schedule led.schedule) due first)
+    (same_on c.args.self.now.schedule c.next.new.self c.hold.new.self (c.in_ok-place.ensures.same led.schedule) (c.in_ok-hold.ensures.same due))
+
+pub returns-then-not-is_let-clause-held : goal.returns-then-not-is_let-clause-held
+returns-then-not-is_let-clause-held g c =
+    let place = c.in-Some.place in
+    let at : Listed = c.in-Some-at.listed in
+    let same = c.in_ok-hold.ensures.same (rw c.in-Some.is at c.in_ok-place.ensures.due) in
+    record {
+      place = place;
+      at = at;
+      there = ap (λ (ls : List Listed). slice_get ls place) same.listed ∙ listed_at (links_of c.next.new.self) place at (sym c.at.ensures ∙ c.in-Some-at.is);
+      held = λ is. false≢true (sym c.if-not-is_let.true ∙ c.is_let.ensures.1 is);
+    }
+
+pub returns-then-not-is_let-clause-queued : goal.returns-then-not-is_let-clause-queued
+returns-then-not-is_let-clause-queued g c = λ leader led place due.
+    queued_once c.hold.new.self place
+    (c.in_ok-hold.ensures.schedule (c.in_ok-place.ensures.schedule led.schedule) (rw c.in-Some.is at c.in_ok-place.ensures.due) (rw c.in-Some.is at c.in_ok-place.ensures.first)) due
+
+pub returns-then-not-is_let-clause-resends : goal.returns-then-not-is_let-clause-resends
+returns-then-not-is_let-clause-resends g c = λ leader led.
+    subst (λ (n : ℕ). IsMore c.args.self.now.schedule.resends (resent_at c.args.now c.args.self.now) n) (sym c.in_ok-hold.ensures.resends) (c.in_ok-place.ensures.resends led.schedule)
+
 -- ---- memory is refused
+
+pub returns-in_err-hold-clause-wanted : goal.returns-in_err-hold-clause-wanted
+returns-in_err-hold-clause-wanted g c = λ leader led.
+    at_err c.from_residual-in_err-hold.result
+    (λ over. some_live_before c.args.self.now.schedule c.next.new.self c.in-Some.place (c.in_ok-place.ensures.same led.schedule)
+    (due_lives c.next.new.self c.in-Some.place (rw c.in-Some.is at c.in_ok-place.ensures.due))
+    (none_live g.D.JournalDevice.honest g.D.JournalDevice.contents g.D.JournalDevice.may_leave c.args.self.now leader led over))
+
+pub returns-in_err-hold-clause-counts_err : goal.returns-in_err-hold-clause-counts_err
+returns-in_err-hold-clause-counts_err g c = at_err c.from_residual-in_err-hold.result refl
 
 pub returns-in_err-place-clause-wanted : goal.returns-in_err-place-clause-wanted
 returns-in_err-place-clause-wanted g c = λ leader led.
@@ -45,6 +102,19 @@ returns-in_err-sent-clause-wanted g c = λ leader led.
     (none_live g.D.JournalDevice.honest g.D.JournalDevice.contents g.D.JournalDevice.may_leave c.args.self.now leader led over))
 
 -- ---- a meter is asked
+
+pub returns-clause-plan : goal.returns-clause-plan
+returns-clause-plan g c = λ leader led.
+    let place = c.in-Some.place in
+    let at : Listed = c.in-Some-at.listed in
+    let same = c.in_ok-place.ensures.same led.schedule in
+    record {
+      place = place;
+      there = ap (λ (ls : List Listed). slice_get ls place) (sym same.listed) ∙ listed_at (links_of c.next.new.self) place at (sym c.at.ensures ∙ c.in-Some-at.is);
+      let_so = c.is_let.ensures.0 c.if-not-is_let.false;
+      heard = λ is. false≢true (sym c.if-is_silent.false ∙ c.is_silent.ensures.1 is);
+      owes = c.asked.ensures;
+    }
 
 pub returns-clause-asked : goal.returns-clause-asked
 returns-clause-asked g c = λ leader led.

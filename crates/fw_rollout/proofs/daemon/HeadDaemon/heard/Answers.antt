@@ -92,7 +92,7 @@ returns-in-Nothing-clause-hears g c = λ leader led.
     let tells = subst (λ (m : ℕ). TellsReason (head_of c.args.self.now.kept) m c.args.datagram.now c.in_ok-news.field-0.news c.in_ok-news.field-0.reason) (search rules) c.in_ok-news.ensures.reason in
     let heard = subst (λ (m : ℕ). HeadHears (head_of c.args.self.now.kept) m c.args.datagram.now c.in_ok-news.field-0.news (head_of c.hear.new.self)) (search rules) c.in_ok-news.ensures.heard in
     nothing_on g.D.JournalDevice.honest g.D.JournalDevice.contents g.D.JournalDevice.may_leave c.args.self.now
-    (record c.args.self.now { kept = c.hear.new.self; ended = c.make_room.new.ended; counts = record c.args.self.now.counts { received = c.count-2.new.counter } }) leader led c.in-Some.place c.in-Some.meter c.args.from
+    (record c.args.self.now { kept = c.hear.new.self; ended = c.make_room.new.ended; counts = record c.args.self.now.counts { received = c.count-2.new.counter }; contacts = c.heard.new.self }) leader led c.in-Some.place c.in-Some.meter c.args.from
     (c.in-Some.ensures.found led.schedule) c.args.datagram.now c.in_ok-news.field-0.news how heard tells (c.in_ok-news.ensures.waits leader.synced led.holds) c.in-Nothing.is c.make_room.ensures.items refl
 
 pub returns-in_ok-answered-in-Moved-clause-hears : goal.returns-in_ok-answered-in-Moved-clause-hears
@@ -105,7 +105,7 @@ returns-in_ok-answered-in-Moved-clause-hears g c = λ leader led.
     let live = moved_live g.D.JournalDevice.honest g.D.JournalDevice.contents g.D.JournalDevice.may_leave c.args.self.now (record c.args.self.now { kept = c.hear.new.self }) leader led c.in-Some.place c.in-Some.meter
     c.args.from there c.args.datagram.now c.in_ok-news.field-0.news how heard tells holds c.in-Moved.is in
     moved_on g.D.JournalDevice.honest g.D.JournalDevice.contents g.D.JournalDevice.may_leave c.args.self.now
-    (record c.args.self.now { kept = c.hear.new.self; schedule = c.answered.new.self; ended = c.make_room.new.ended; counts = record c.args.self.now.counts { received = c.count-2.new.counter } }) leader led c.in-Some.place
+    (record c.args.self.now { kept = c.hear.new.self; schedule = c.answered.new.self; ended = c.make_room.new.ended; counts = record c.args.self.now.counts { received = c.count-2.new.counter }; contacts = c.heard.new.self }) leader led c.in-Some.place
     c.in-Some.meter c.args.from there c.args.datagram.now c.in_ok-news.field-0.news how heard tells holds c.in-Moved.is c.make_room.ensures.items (c.in_ok-answered-in-Moved.ensures.schedule led.schedule live) (c.in_ok-answered-in-Moved.ensures.same live)
 
 pub returns-in_ok-end_row-in-Done-clause-hears : goal.returns-in_ok-end_row-in-Done-clause-hears

@@ -1,7 +1,7 @@
 use Rattle.std.proofs.Common.{refl}
 use Rattle.fw_kept.specs.Head.{head_of}
 use Rattle.fw_rollout.specs.Daemon.{new_leader}
-use Rattle.test_campaigns.proofs.setting.new_daemon.Goals as goal
+use Rattle.test_campaigns.proofs.setting.planned_daemon.Goals as goal
 
 pub returns : goal.returns
 returns c =
