@@ -1,3 +1,4 @@
-pub mod Telling
 pub mod Plaining
 pub mod Worded
+pub mod Taken
+pub mod Flow

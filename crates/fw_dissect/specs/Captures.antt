@@ -1,12 +1,9 @@
 -- Public vocabulary: a capture in plain words. Each datagram that was sealed under one of some links stands there opened, with its time and its
 -- addresses. Others and notes stand there as they are. Packets that are neither aren't there.
-use Rattle.std.specs.Prelude.{◌≡◌, ◌⊎◌, ℕ, List, [], ◌∷◌, ◌++◌, Option, Some, Ok}
+use Rattle.std.specs.Prelude.{◌≡◌, ◌⊎◌, ℕ, List, [], ◌∷◌, ◌++◌, Option, Some}
 use Rattle.fw_capture.specs.declared.error.AppendError.{AppendError}
 use Rattle.fw_capture.specs.declared.fault.CaptureError.{CaptureError}
-use Rattle.fw_capture.specs.Place.{Place}
-use Rattle.fw_capture.specs.Reading.{record_at}
 use Rattle.fw_capture.specs.Refusal.{refusal_of}
-use Rattle.fw_capture.specs.Steps.{OpensAs, after}
 use Rattle.fw_capture.specs.View.{Told, datagram, note, other}
 use Rattle.fw_recording.specs.Records.{HoldsRecords}
 use Rattle.fw_recording.specs.Recording.{capture_bytes}
@@ -37,25 +34,8 @@ pub record IsPlainCapture (links : List Ends) (capture : List ℕ) (ending : Opt
   pub plain_are : PlainRecords links records plain
   pub written : bytes ≡ capture_bytes plain
 
--- ---- why there is none
-
--- behind these records, from a place on, is this place
-abbrev pub Passes : Place → List (ℕ × Told) → Place → Type 0
-Passes start [] place = place ≡ start
-Passes start (r ∷ records) place =
-    (size : ℕ) × (record_at start.format start.rest ≡ Ok (r.0, r.1, size)) × Passes (after size start) records place
-
--- one of its records makes no record in plain words, since a capture refuses it
-pub record HasNoPlain (links : List Ends) (capture : List ℕ) (error : AppendError) : Type 0 where
-  pub start : Place
-  pub opens : OpensAs capture (Ok start)
-  pub before : List (ℕ × Told)
-  pub place : Place
-  pub passes : Passes start before place
-  pub time : ℕ
-  pub told : Told
-  pub size : ℕ
-  pub there : record_at place.format place.rest ≡ Ok (time, told, size)
+-- a record makes none in plain words, since a capture refuses it
+pub record RefusesPlain (links : List Ends) (time : ℕ) (told : Told) (error : AppendError) : Type 0 where
   pub plain : ℕ × Told
   pub is : PlainRecord links time told (plain ∷ [])
   pub refused : refusal_of plain.0 plain.1 ≡ Some error

@@ -14,7 +14,7 @@ use Rattle.fw_report.specs.Message.{Says}
 use Rattle.fw_report.specs.Trace.{in_bytes, message_words}
 use Rattle.fw_recording.specs.Records.{HoldsRecords}
 use Rattle.fw_seal.specs.Sealing.{Ends}
-use Rattle.fw_dissect.specs.Times.{IsTime}
+use Rattle.fw_calendar.specs.Times.{IsTime}
 use Rattle.fw_unseal.specs.Unsealing.{LooksPlain, LooksSealed, OpensNot, OpensTo}
 
 -- ---- which way a datagram goes

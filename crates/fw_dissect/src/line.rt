@@ -4,8 +4,8 @@ ghost use Rattle.std.specs.Prelude.{◌≡◌, ◌+◌, ◌<◌, ◌^◌, ◌++�
 ghost use Rattle.fw_capture.specs.View.{endpoint_of, told_in};
 ghost use Rattle.fw_dissect.specs.Lines.{AreWords, IsLine, IsTimeIf, datagram_line, endpoint_text, ends_text, front_text, note_line, number_after};
 
-use crate::time::append_time;
 use crate::words::append_words;
+use fw_calendar::append_time;
 use fw_capture::{Content, Note, Packet};
 use fw_seal::Link;
 use std::alloc::{AllocError, Global};

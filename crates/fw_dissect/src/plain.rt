@@ -1,76 +1,117 @@
 //! A capture in plain words.
 
-ghost use Rattle.std.specs.Prelude.{◌≡◌, ◌⊎◌, ◌++◌, ◌∷◌, [], ℕ, List, IfErr, IfOk, MatchOption, OnOk, Some};
+ghost use Rattle.std.specs.Prelude.{◌≡◌, ◌⊎◌, ◌++◌, ◌∷◌, [], ℕ, List, IfErr, IfOk, IsTrue, OnErr, OnOk, is_some};
+ghost use Rattle.std.specs.Io.KnownBytes.{Appends};
+ghost use Rattle.std.specs.Option.{option_map};
 ghost use Rattle.fw_capture.specs.Refusal.{IsRefusal, refusal_of};
-ghost use Rattle.fw_capture.specs.declared.error.AppendError.{AppendError};
+ghost use Rattle.fw_capture.specs.Spelling.{file_header};
 ghost use Rattle.fw_capture.specs.View.{Told, datagram, endpoint_of, note as note_told, told_in};
-ghost use Rattle.fw_recording.specs.Records.{HasRecords};
 ghost use Rattle.fw_recording.specs.Recording.{records_bytes};
-ghost use Rattle.fw_dissect.specs.Captures.{HasNoPlain, IsPlainCapture, Plain, PlainRecord, PlainRecords};
-ghost use Rattle.fw_dissect.specs.Private.{HasNoPlainFrom, RefusesPlain};
+ghost use Rattle.fw_dissect.specs.Captures.{Plain, PlainRecord, RefusesPlain};
+ghost use Rattle.fw_dissect.specs.Private.{IsOfNoRecord, KeepsIf, NoneIf, PutsIf, PutsRecord, PutsRecordIf};
 
-use fw_capture::{
-    AppendError, CaptureError, Captured, Content, Note, Packet, Reader, append_packet, file_header,
-};
+use crate::error::DissectError;
+use fw_capture::{AppendError, Captured, Content, Note, Packet, append_packet, file_header};
 use fw_seal::Link;
 use fw_unseal::unseal;
 use std::alloc::{AllocError, Global};
+use std::io::Write;
 use std::net::SocketAddr;
 
-/// A capture in plain words.
-#[derive(Drop)]
-pub struct PlainCapture {
-    /// Its bytes.
-    pub bytes: Vec<u8>,
-    /// The first fault of the capture that it was made of, if that has one. It ends with the record before it.
-    pub fault: Option<CaptureError>,
-}
-
-/// The capture in plain words of one whose datagrams were sealed under these links: each datagram that opens stands there opened, with its time
-/// and its addresses, and others and notes as they are. Packets that are neither aren't there.
-///
-/// # Errors
-///
-/// What refuses a record of it, as a datagram over IPv6 that is longer than a capture takes, or `OutOfMemory`.
-pub fn plain_capture(
+/// Puts the file header of a capture, if there is a writer for one.
+pub(crate) fn put_file_header<C: Write>(
     alloc: Global,
-    links: &[Link],
-    capture: &[u8],
-) -> Result<PlainCapture, AppendError>
-    ensures plain { IfOk result (λ made. IsPlainCapture links.now capture.now made.fault made.bytes.items) }
-    ensures refused { IfErr result (λ e. (e ≡ AppendError.OutOfMemory) ⊎ HasNoPlain links.now capture.now e) }
+    plain: &mut Option<C>,
+) -> Result<(), DissectError>
+    ensures put { OnOk result (PutsIf (option_map C.contents plain.old) (option_map C.contents plain.new) file_header) }
+    ensures asked { OnErr result (IsTrue (is_some plain.old)) }
+    ensures present { is_some plain.new ≡ is_some plain.old }
+    ensures faults { IfErr result IsOfNoRecord }
 {
-    let mut bytes = file_header(alloc)?;
-    match Reader::new(capture) {
-        Ok(mut reader) => {
-            let fault = append_records(alloc, links, &mut bytes, &mut reader)?;
-            Ok(PlainCapture { bytes, fault })
-        }
-        Err(error) => Ok(PlainCapture {
-            bytes,
-            fault: Some(error),
-        }),
+    match plain {
+        Some(writer) => put_header(alloc, writer),
+        None => Ok(()),
     }
 }
 
-/// Appends the records that are left, in plain words, and returns the fault at which the capture ends, if it ends at one.
-fn append_records(
+/// Puts what stands in the place of the record of a packet, if there is a writer of captures.
+pub(crate) fn put_plain<C: Write>(
     alloc: Global,
     links: &[Link],
-    out: &mut Vec<u8>,
-    reader: &mut Reader<'_>,
-) -> Result<Option<CaptureError>, AppendError>
-    ensures plain { IfOk result (λ fault. (records plain : List (ℕ × Told)) × HasRecords reader.old records fault
-        × PlainRecords links.now records plain × (out.new.items ≡ out.old.items ++ records_bytes plain)) }
-    ensures refused { IfErr result (λ e. (e ≡ AppendError.OutOfMemory) ⊎ HasNoPlainFrom links.now reader.old e) }
+    packet: &Packet<'_>,
+    plain: &mut Option<C>,
+) -> Result<(), DissectError>
+    ensures put { OnOk result (PutsRecordIf links.now packet.now.nanoseconds (told_in packet.now.content)
+        (option_map C.contents plain.old) (option_map C.contents plain.new)) }
+    ensures none { IfErr result (λ e. NoneIf e links.now packet.now.nanoseconds (told_in packet.now.content)) }
+    ensures asked { OnErr result (IsTrue (is_some plain.old)) }
+    ensures present { is_some plain.new ≡ is_some plain.old }
 {
-    'records: loop {
-        match reader.next() {
-            Ok(Some(packet)) => append_record(alloc, links, out, &packet)?,
-            Ok(None) => return Ok(None),
-            Err(error) => return Ok(Some(error)),
-        }
+    match plain {
+        Some(writer) => put_record(alloc, links, packet, writer),
+        None => Ok(()),
     }
+}
+
+/// Flushes the writer of captures, if there is one.
+pub(crate) fn flush_plain<C: Write>(plain: &mut Option<C>) -> Result<(), DissectError>
+    ensures kept { KeepsIf (option_map C.contents plain.old) (option_map C.contents plain.new) }
+    ensures asked { OnErr result (IsTrue (is_some plain.old)) }
+    ensures faults { IfErr result IsOfNoRecord }
+{
+    match plain {
+        Some(writer) => match writer.flush() {
+            Ok(()) => Ok(()),
+            Err(_) => Err(DissectError::Plain),
+        },
+        None => Ok(()),
+    }
+}
+
+/// Puts the file header of a capture.
+fn put_header<C: Write>(alloc: Global, writer: &mut C) -> Result<(), DissectError>
+    ensures put { OnOk result (Appends (C.contents writer.old) (C.contents writer.new) file_header) }
+    ensures faults { IfErr result IsOfNoRecord }
+{
+    let header = file_header(alloc)?;
+    put(writer, &header)
+}
+
+/// Puts what stands in the place of the record of a packet.
+fn put_record<C: Write>(
+    alloc: Global,
+    links: &[Link],
+    packet: &Packet<'_>,
+    writer: &mut C,
+) -> Result<(), DissectError>
+    ensures put { OnOk result (PutsRecord links.now packet.now.nanoseconds (told_in packet.now.content)
+        (C.contents writer.old) (C.contents writer.new)) }
+    ensures none { IfErr result (λ e. NoneIf e links.now packet.now.nanoseconds (told_in packet.now.content)) }
+{
+    let bytes = record_of(alloc, links, packet)?;
+    put(writer, &bytes)
+}
+
+/// Puts bytes.
+fn put<C: Write>(writer: &mut C, bytes: &[u8]) -> Result<(), DissectError>
+    ensures put { OnOk result (Appends (C.contents writer.old) (C.contents writer.new) bytes.now) }
+    ensures faults { IfErr result (λ e. e ≡ DissectError.Plain) }
+{
+    match writer.write_all(bytes) {
+        Ok(()) => Ok(()),
+        Err(_) => Err(DissectError::Plain),
+    }
+}
+
+/// What stands in the place of the record of a packet.
+fn record_of(alloc: Global, links: &[Link], packet: &Packet<'_>) -> Result<Vec<u8>, DissectError>
+    ensures record { IfOk result (λ bytes. (plain : List (ℕ × Told))
+        × PlainRecord links.now packet.now.nanoseconds (told_in packet.now.content) plain × (bytes.items ≡ records_bytes plain)) }
+    ensures none { IfErr result (λ e. NoneIf e links.now packet.now.nanoseconds (told_in packet.now.content)) }
+{
+    let mut bytes = Vec::new(alloc);
+    append_record(alloc, links, &mut bytes, packet)?;
+    Ok(bytes)
 }
 
 /// Appends what stands in the place of the record of a packet.
