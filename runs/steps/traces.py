@@ -1,11 +1,14 @@
 """Captures of sealed links, which `trace` opens with the keys of their links. They are sealed here, by another implementation."""
 
+import os
 import re
+import resource
 import stat
 import struct
+import subprocess
 
 import suite0
-from common import ROOT, wants
+from common import PATIENCE, ROOT, comes_in, wants
 from sealing import (HEAD_TITLE, IMAGE, KEYS, METER_TITLE, MISSING, OTHER_KEYS, activated, brings, free_address, head_keys, refused,
                      starts)
 
@@ -161,4 +164,51 @@ def wrong_files_of_a_trace_are_told(place):
         wants((status, said) == (2, ""), f"trace {wrong} ends with {status}")
 
 
-STEPS = [a_sealed_session_is_opened, sealed_captures_are_opened, what_does_not_open_is_told_as_sealed, wrong_files_of_a_trace_are_told]
+# How many bytes of memory `trace` may ask for, and how many each datagram of a long capture has.
+MEMORY, LONG = 64 << 20, 40_000
+
+
+# To be seen: a capture is read as a whole before anything is told, or more of it is kept the longer it is; what stands before the place where it
+# is cut isn't told, or the place isn't.
+def long_captures_take_little_memory(place):
+    """A capture that is longer than the memory which the program may have is told up to its end, and up to where it is cut."""
+    record, file = packet(0, HEAD_AT, METER_AT, bytes(LONG)), place.folder / "long.pcap"
+    count = 2 * MEMORY // len(record)
+    with file.open("wb") as made:
+        made.write(HEADER)
+        made.writelines(record for _ in range(count))
+    limit = {"preexec_fn": lambda: resource.setrlimit(resource.RLIMIT_AS, (MEMORY, MEMORY))}
+    lines = [f"{number} 10.0.0.7:4058 -> 10.0.1.1:4059  ? ({LONG} bytes), wrapper Version" for number in range(count)]
+    status, out, said = place.run("trace", file, **limit)
+    wants((status, said) == (0, []), f"trace ends with {status} and {said}")
+    wants(out.splitlines() == lines, f"of {count} datagrams it tells {len(out.splitlines())}")
+    os.truncate(file, file.stat().st_size - 1)
+    status, out, said = place.run("trace", file, **limit)
+    at = len(HEADER) + (count - 1) * len(record)
+    wants((status, said) == (1, [f"dlmsfw: BadCapture CutPacket {at}"]), f"cut at its last byte, trace ends with {status} and {said}")
+    wants(out.splitlines() == lines[:-1], f"cut at its last byte, it tells {len(out.splitlines())} of {count - 1} datagrams")
+
+
+# To be seen: lines wait for further packets, or for the end.
+def what_comes_over_a_pipe_is_told_as_it_comes(place):
+    """Each packet that comes over a pipe is told before the next one comes."""
+    with subprocess.Popen([place.program, "trace"], stdin=subprocess.PIPE, stdout=subprocess.PIPE) as made:
+        made.stdin.write(HEADER)
+        for number in range(3):
+            made.stdin.write(packet(number, HEAD_AT, METER_AT, b"\0"))
+            made.stdin.flush()
+            wants(comes_in(made.stdout, PATIENCE), f"packet {number} isn't told")
+            line = os.read(made.stdout.fileno(), 999).decode()
+            wants(line == f"{number} 10.0.0.7:4058 -> 10.0.1.1:4059  ? (1 bytes), wrapper Short\n", f"of packet {number} it tells {line}")
+        made.stdin.close()
+        wants(made.wait(PATIENCE) == 0, f"trace ends with {made.returncode}")
+
+
+STEPS = [
+    a_sealed_session_is_opened,
+    sealed_captures_are_opened,
+    what_does_not_open_is_told_as_sealed,
+    wrong_files_of_a_trace_are_told,
+    long_captures_take_little_memory,
+    what_comes_over_a_pipe_is_told_as_it_comes,
+]

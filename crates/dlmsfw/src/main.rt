@@ -1,7 +1,7 @@
 //! The program `dlmsfw`: its command line, its exit statuses, and the printing of its faults.
 #![tactic(auto)]
 
-ghost use Rattle.std.specs.Prelude.{◌≡◌, ℕ, [], IfErr, IfOk, IsErr, IsTrue, None, OnErr, OnOk, Some, false, is_some};
+ghost use Rattle.std.specs.Prelude.{◌≡◌, ◌≢◌, ℕ, [], IfErr, IfOk, IsErr, IsTrue, None, OnErr, OnOk, Some, false, is_some};
 ghost use Rattle.std.specs.Io.KnownBytes.{Keeps};
 ghost use Rattle.std.specs.Option.{option_map};
 ghost use Rattle.std.specs.Process.{exit_status};
@@ -11,8 +11,9 @@ ghost use Rattle.fw_cli.specs.Cancelling.{HasCancelled};
 ghost use Rattle.fw_cli.specs.GivingUp.{HasGivenUp};
 ghost use Rattle.fw_cli.specs.declared.give_up.GaveUp.TheVariants.{Each, NotEach};
 ghost use Rattle.fw_cli.specs.declared.head.LedOut.TheVariants.{NoneFailed, SomeFailed, SomeUnlisted};
-ghost use Rattle.fw_cli.specs.Faults.{ComesBeforeOutput, IsOfTrace};
-ghost use Rattle.fw_cli.specs.Tracing.{AreOfFile, WritesTrace};
+ghost use Rattle.fw_cli.specs.Faults.{IsOfTrace};
+ghost use Rattle.fw_cli.specs.Tracing.{AreOfFile};
+ghost use Rattle.fw_dissect.specs.Streams.{Dissects, TellsFront};
 ghost use Rattle.fw_disk.specs.declared.reason.Reason.{Reason};
 ghost use Rattle.dlmsfw.specs.Status.{EndsAs, EndsParse, EndsWith};
 ghost use Rattle.dlmsfw.specs.TracePlaces.{trace_fault_of};
@@ -47,7 +48,7 @@ use refusal::Refusal;
 use std::alloc::Global;
 use std::fmt::Display;
 use std::fs::File;
-use std::io::{IsTerminal, Read, Write};
+use std::io::{BufReader, IsTerminal, Read, Write};
 use std::net::Net;
 use std::process::ExitCode;
 use std::random::RandomSource;
@@ -340,18 +341,20 @@ fn trace_with<'a, R: AllocGlobal + Files<File = File> + Input + Print>(
     links: &[Link],
     options: &TraceOptions<'a>,
 ) -> Result<(), Ending<'a>> {
+    let Ok(mut reader) = BufReader::new(rt.alloc(), rt.reader()) else {
+        return Err(Ending::Fault(Fault::OutOfMemory));
+    };
     let mut plain = match options.plain {
         Some(path) => Some(PlainFile::at(rt, path)),
         None => None,
     };
-    let reader = &mut rt.reader();
     let writer = &mut io::writer(rt);
     match trace(
         rt,
         rt.alloc(),
         links,
         options.times,
-        reader,
+        &mut reader,
         writer,
         &mut plain,
         options.capture,
@@ -514,25 +517,47 @@ fn trace<F: Files<File = File>, R: Read, W: Write, C: Write>(
     plain: &mut Option<C>,
     capture: Option<&str>,
 ) -> Result<(), TraceFault>
-    ensures input { capture.entry ≡ None → OnOk result (WritesTrace times links.now None (R.remaining reader.old) (R.remaining reader.new)
+    ensures input { capture.entry ≡ None → OnOk result (Dissects times links.now None (R.remaining reader.old) (R.remaining reader.new)
         (W.contents writer.old) (W.contents writer.new) (option_map C.contents plain.old) (option_map C.contents plain.new)) }
+
+    // Whatever ends it, what was told are the first records of standard input. Of a file nothing is known here.
+    ensures front { capture.entry ≡ None → IfErr result (λ e. trace_fault_of e ≢ Fault.Output
+        → TellsFront times links.now (R.remaining reader.old) (W.contents writer.old) (W.contents writer.new)) }
 
     // If a file is named, standard input isn't read.
     ensures file { IsTrue (is_some capture.entry) → R.remaining reader.new ≡ R.remaining reader.old }
     ensures unopened { (reason : Reason) → result ≡ Err (TraceFault.Unopened reason) → IsTrue (is_some capture.entry) }
+    ensures silent { (reason : Reason) → result ≡ Err (TraceFault.Unopened reason) → Keeps (W.contents writer.old) (W.contents writer.new) }
     ensures asked { result ≡ Err (TraceFault.Ended Fault.CaptureFault) → IsTrue (is_some plain.old) }
-    ensures silent { IfErr result (λ e. ComesBeforeOutput (trace_fault_of e) → Keeps (W.contents writer.old) (W.contents writer.new)) }
     ensures faults { IfErr result (λ e. IsOfTrace (trace_fault_of e)) }
 {
     let Some(path) = capture else {
         return Ok(run_trace(alloc, links, times, reader, writer, plain)?);
     };
     match File::open(rt, path) {
-        Ok(mut file) => Ok(run_trace(alloc, links, times, &mut file, writer, plain)?),
+        Ok(file) => Ok(trace_file(alloc, links, times, file, writer, plain)?),
         Err(error) => {
             let reason = Cause::from(error).at(Name::Main);
             Err(TraceFault::Unopened(reason))
         }
+    }
+}
+
+/// Tells the capture in a file.
+fn trace_file<W: Write, C: Write>(
+    alloc: Global,
+    links: &[Link],
+    times: bool,
+    file: File,
+    writer: &mut W,
+    plain: &mut Option<C>,
+) -> Result<(), Fault>
+    ensures asked { result ≡ Err Fault.CaptureFault → IsTrue (is_some plain.old) }
+    ensures faults { IfErr result IsOfTrace }
+{
+    match BufReader::new(alloc, file) {
+        Ok(mut reader) => run_trace(alloc, links, times, &mut reader, writer, plain),
+        Err(_) => Err(Fault::OutOfMemory),
     }
 }
 

@@ -73,6 +73,8 @@ enum WrongValue<'a> {
     NotSeen { option: &'static str, text: &'a str },
     /// The value of this option names no campaigns.
     NoCampaigns { option: &'static str, text: &'a str },
+    /// The value of this option is no number of rows, nor one of rows in a hundred.
+    NoThreshold { option: &'static str, text: &'a str },
     /// The value of this option names no meters.
     NoMeters { option: &'static str, text: &'a str },
     /// Memory was refused.
@@ -106,6 +108,9 @@ impl WrongValue<'_> {
             ),
             WrongValue::NoCampaigns { option, text } => format!(in alloc;
                 "invalid value '{text}' for '--{option} <SERIALS>': it is no list of serial numbers and ranges of them, as 7,9-12, each a number from 1 to 4294967295"
+            ),
+            WrongValue::NoThreshold { option, text } => format!(in alloc;
+                "invalid value '{text}' for '--{option} <N|N%>': it is neither a number from 0 to 4294967295 nor one from 0 to 100 with a % after it"
             ),
             WrongValue::NoMeters { option, text } => format!(in alloc;
                 "invalid value '{text}' for '--{option} <METERS>': it is no list of numbers and ranges of them, as 7,9-12, each a number from 0 to 4294967295"

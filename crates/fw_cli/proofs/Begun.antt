@@ -14,11 +14,13 @@ use Rattle.fw_plan.specs.declared.absent.UnlistedRow.{UnlistedRow}
 use Rattle.fw_plan.specs.declared.part.Part.{Part}
 use Rattle.fw_plan.specs.declared.ranges.SerialRange.{SerialRange}
 use Rattle.fw_rollout.specs.Counting.{counted_of}
-use Rattle.fw_rollout.specs.Daemon.{HasRunOut}
+use Rattle.fw_rollout.specs.Daemon.{HasRunOut, meters_of}
 use Rattle.fw_rollout.specs.declared.daemon.HeadDaemon.{HeadDaemon}
 use Rattle.fw_rollout.specs.declared.link.Listed.{Listed}
 use Rattle.fw_host.specs.Lists.{SpellsList}
 use Rattle.fw_host.specs.Openings.{listed_meters}
+use Rattle.fw_host.specs.Waves.{listed_in}
+use Rattle.fw_host.specs.declared.wave_list.Planned.{Planned}
 use Rattle.fw_host.specs.declared.head_opening.Opening.{Opening}
 use Rattle.fw_cli.specs.Beginning.{AreChanges, AreOpenings, Begins, HasLedOut, HasLedTo, IsDaemonOf, IsOpeningOf, OpensThem, opened_all}
 use Rattle.fw_cli.specs.Cancelling.{cancelled_all}
@@ -112,13 +114,13 @@ pub changes_of_new : (named : List SerialRange) (opened : Option Opened) (list :
 changes_of_new named opened list changes number width h new are = subst (λ (x : Head). AreChanges x.book named opened list changes) (sym new) are
 
 -- what a head end did that led its rows to their ends
-pub led_out : (options : HeadOptions) (text : List ℕ) (list : List Listed) (opened taken : Option Opened) (found kept : KeptHead FileDevice) (changes : Changes)
+pub led_out : (options : HeadOptions) (text : List ℕ) (list : List Planned) (opened taken : Option Opened) (found kept : KeptHead FileDevice) (changes : Changes)
     (daemon last : HeadDaemon FileDevice) (rows : List UnlistedRow) (led : LedOut)
     → SpellsList options.listen text list → IsOpeningOf options.opening opened → taken ≡ opened → (book_of found).head ≡ options.head → BeginsWith (book_of found) options.width (head_of found)
-    → AreChanges (book_of found) options.cancel.items opened list changes → Begins changes taken (head_of found) (head_of kept)
-    → IsDaemonOf kept list options.timing daemon → HasRunOut last → rows ≡ unlisted (listed_meters list) (book_of kept)
+    → AreChanges (book_of found) options.cancel.items opened (listed_in list) changes → Begins changes taken (head_of found) (head_of kept)
+    → IsDaemonOf kept options.timing options.plan daemon → meters_of last ≡ listed_in list → HasRunOut last → rows ≡ unlisted (listed_meters (listed_in list)) (book_of kept)
     → HasLedTo rows (counted_of last).failed led → HasLedOut options led
-led_out options text list opened taken found kept changes daemon last rows led spelled opening same number width asked begun made ran_out are ended = record {
+led_out options text list opened taken found kept changes daemon last rows led spelled opening same number width asked begun made asks ran_out are ended = record {
   text = text;
   list = list;
   spelled = spelled;
@@ -134,6 +136,7 @@ led_out options text list opened taken found kept changes daemon last rows led s
   daemon = daemon;
   made = made;
   last = last;
+  asks = asks;
   ran_out = ran_out;
   ended = subst (λ (l : List UnlistedRow). HasLedTo l (counted_of last).failed led) are ended;
 }

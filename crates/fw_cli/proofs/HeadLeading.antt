@@ -85,6 +85,7 @@ pub setup_in_head : (f : Fault) → IsOfHeadSetup f → IsOfHead f
 setup_in_head fault.Full is = tt
 setup_in_head fault.Output is = tt
 setup_in_head fault.CounterSpent is = tt
+setup_in_head (fault.TooManyFailed failed) is = tt
 setup_in_head f is = is
 
 pub record IsLater (options : HeadOptions) (f : Fault) : Type 0 where
@@ -126,6 +127,7 @@ stopped options fault.CounterSpent asked keyed is = record { of_head = tt; asked
 stopped options fault.Socket asked keyed is = record { of_head = tt; asked = tt; later = λ h. h }
 stopped options fault.BookFault asked keyed is = record { of_head = tt; asked = tt; later = λ h. h }
 stopped options fault.Full asked keyed is = record { of_head = tt; asked = tt; later = λ h. h }
+stopped options (fault.TooManyFailed failed) asked keyed is = record { of_head = tt; asked = tt; later = λ h. h }
 stopped options fault.OutOfMemory asked keyed is = record { of_head = tt; asked = tt; later = λ h. h }
 stopped options f asked keyed is = absurd is
 

@@ -1,5 +1,4 @@
 pub mod Described
-pub mod Floatless
 pub mod Honest
 pub mod NewStores
 pub mod OneAnswer
@@ -17,3 +16,4 @@ pub mod Fleeting
 pub mod Linked
 pub mod Keyed
 pub mod Traced
+pub mod Dissected

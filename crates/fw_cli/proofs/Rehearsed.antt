@@ -24,8 +24,7 @@ use Rattle.fw_cli.specs.Replaying.{MayWantFor}
 use Rattle.fw_cli.specs.Scripts.{EndsBy, MakesNoneFor}
 use Rattle.fw_faults.specs.declared.fault.Fault.{Fault}
 use Rattle.fw_faults.specs.declared.fault.Fault.TheVariants as fault
-use Rattle.fw_faults.specs.Faults.{fault_of_rehearsal}
-use Rattle.fw_cli.specs.Private.{HasNoReport}
+use Rattle.fw_cli.specs.Private.{HasNoReport, fault_of_rehearsal}
 use Rattle.fw_cli.proofs.Scripted as Scripted
 use Rattle.fw_report.specs.Report.{report_of, board_line}
 

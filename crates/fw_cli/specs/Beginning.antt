@@ -13,11 +13,15 @@ use Rattle.fw_plan.specs.declared.ranges.SerialRange.{SerialRange}
 use Rattle.fw_rollout.specs.Counting.{counted_of}
 use Rattle.fw_rollout.specs.Daemon.{HasRunOut, kept_of, meters_of, timing_of}
 use Rattle.fw_rollout.specs.declared.daemon.HeadDaemon.{HeadDaemon}
+use Rattle.fw_rollout.specs.Plans.{plan_of}
 use Rattle.fw_rollout.specs.declared.link.Listed.{Listed}
+use Rattle.fw_rollout.specs.declared.plan.Plan.{Plan}
 use Rattle.fw_rollout.specs.declared.timing.Timing.{Timing}
 use Rattle.fw_host.specs.Lists.{SpellsList}
 use Rattle.fw_host.specs.Openings.{listed_meters}
+use Rattle.fw_host.specs.Waves.{listed_in}
 use Rattle.fw_host.specs.declared.head_opening.Opening.{Opening}
+use Rattle.fw_host.specs.declared.wave_list.Planned.{Planned}
 use Rattle.fw_cli.specs.Cancelling.{cancelled_all}
 use Rattle.fw_cli.specs.declared.beginning.Changes.{Changes}
 use Rattle.fw_cli.specs.declared.beginning.Opened.{Opened}
@@ -60,11 +64,12 @@ Begins changes opened old new = OpensThem opened changes.parts.items (cancelled_
 
 -- ---- which head end is led
 
--- the daemon of this head end asks the meters of this list, and waits for answers so
-pub record IsDaemonOf {D : Type 0} (kept : KeptHead D) (list : List Listed) (timing : Timing) (daemon : HeadDaemon D) : Type 0 where
+-- the daemon of this head end asks nobody yet, waits for answers so, and has this plan
+pub record IsDaemonOf {D : Type 0} (kept : KeptHead D) (timing : Timing) (plan : Plan) (daemon : HeadDaemon D) : Type 0 where
   pub leads : kept_of daemon ≡ kept
-  pub asks : meters_of daemon ≡ list
+  pub asks : meters_of daemon ≡ []
   pub waits : timing_of daemon ≡ timing
+  pub planned : plan_of daemon ≡ plan
 
 -- what is said of the rows, if these are live and their meters aren't in the list, and so many of those that are led failed
 abbrev pub HasLedTo : List UnlistedRow → ℕ → LedOut → Type 0
@@ -73,12 +78,13 @@ HasLedTo rows failed led.SomeFailed = (rows ≡ []) × (failed ≢ 0)
 HasLedTo rows failed led.SomeUnlisted = rows ≢ []
 
 -- What `head` did with these options. The meters are those of a list, and the head end has the number and the width of the options and began
--- with a book. What the options cancel and open in it was cancelled and opened. A daemon was made of that which asks these meters as the
--- options say. Of `last`, which the code leads it to, no row of these meters is live and none waits to be put on the device, and it counted
--- whether rows failed. Whether rows of other meters are live, the book says with which the daemon was made.
+-- with a book. What the options cancel and open in it was cancelled and opened. A daemon was made of that which asks nobody yet, and waits and
+-- has a plan as the options say. The code has it ask these meters wave after wave, and leads it to `last`, which asks all of them: no row of
+-- theirs is live and none waits to be put on the device, and it counted whether rows failed. Whether rows of other meters are live, the book
+-- says with which the daemon was made.
 pub record HasLedOut (options : HeadOptions) (led : LedOut) : Type 0 where
   pub text : List ℕ
-  pub list : List Listed
+  pub list : List Planned
   pub spelled : SpellsList options.listen text list
   pub opened : Option Opened
   pub opening : IsOpeningOf options.opening opened
@@ -86,11 +92,12 @@ pub record HasLedOut (options : HeadOptions) (led : LedOut) : Type 0 where
   pub number : (book_of found).head ≡ options.head
   pub width : BeginsWith (book_of found) options.width (head_of found)
   pub changes : Changes
-  pub asked : AreChanges (book_of found) options.cancel.items opened list changes
+  pub asked : AreChanges (book_of found) options.cancel.items opened (listed_in list) changes
   pub kept : KeptHead FileDevice
   pub begun : Begins changes opened (head_of found) (head_of kept)
   pub daemon : HeadDaemon FileDevice
-  pub made : IsDaemonOf kept list options.timing daemon
+  pub made : IsDaemonOf kept options.timing options.plan daemon
   pub last : HeadDaemon FileDevice
+  pub asks : meters_of last ≡ listed_in list
   pub ran_out : HasRunOut last
-  pub ended : HasLedTo (unlisted (listed_meters list) (book_of kept)) (counted_of last).failed led
+  pub ended : HasLedTo (unlisted (listed_meters (listed_in list)) (book_of kept)) (counted_of last).failed led

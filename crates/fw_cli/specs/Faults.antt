@@ -56,7 +56,6 @@ IsOfName fault = ⊥
 -- the faults of `trace`
 abbrev pub IsOfTrace : Fault → Type 0
 IsOfTrace Input = Unit {0}
-IsOfTrace TooMuchInput = Unit {0}
 IsOfTrace (BadCapture error) = Unit {0}
 IsOfTrace CaptureFault = Unit {0}
 IsOfTrace Output = Unit {0}

@@ -1,10 +1,5 @@
 -- Public vocabulary: the commands `head` and `status`: the faults that `head` has when, and the report and the faults of `status`.
-use Rattle.std.specs.Prelude.{◌≡◌, ◌≢◌, ◌⊎◌, ℕ, List, [], ◌++◌, Option, None, Some, Bool, true, false, IsTrue, is_some, filter, flat_map, length, map, codes, decimal}
-use Rattle.serde_json.specs.Data.{Data, array, object, member, no_members}
-use Rattle.serde_json.specs.View.{items_of}
-use Rattle.serde_json.specs.Written.{compact_text}
-use Rattle.fw_book.specs.declared.row.RowState.{RowState}
-use Rattle.fw_book.specs.declared.row.RowState.TheVariants as state
+use Rattle.std.specs.Prelude.{◌≡◌, ◌≢◌, ◌⊎◌, ℕ, List, [], Option, None, Some, false, IsTrue, is_some}
 use Rattle.fw_book.specs.Contents.{Contents}
 use Rattle.fw_disk.specs.declared.cause.Cause.{Cause}
 use Rattle.fw_disk.specs.declared.cause.Cause.TheVariants.{Missing}
@@ -14,51 +9,21 @@ use Rattle.fw_journal.specs.Book.{Stands}
 use Rattle.fw_book.specs.Notes.{Known}
 use Rattle.fw_kept.specs.Kept.{HasBook, HasNotes}
 use Rattle.fw_faults.specs.declared.fault.Fault.{Fault}
-use Rattle.fw_faults.specs.declared.fault.Fault.TheVariants.{BadList, BadSetup, BookExists, BookFault, BadBook, BadRecord, CancelRefused, CaptureFault, CounterFault, CounterSpent, ForeignCapture, ForeignHead, Full, ImageFault, ListFault, NoBook, OpenRefused, Output, OutOfMemory, Socket}
-use Rattle.fw_report.specs.Json.{number_data}
-use Rattle.fw_report.specs.Noted.{Noted, csv_headings, csv_row, noted_data, noted_of_book, row_cells}
-use Rattle.fw_report.specs.Table.{row_headings}
+use Rattle.fw_faults.specs.declared.fault.Fault.TheVariants.{BadList, BadSetup, BookExists, BookFault, BadBook, BadRecord, CancelRefused, CaptureFault, CounterFault, CounterSpent, ForeignCapture, ForeignHead, Full, ImageFault, ListFault, NoBook, OpenRefused, Output, OutOfMemory, Socket, TooManyFailed}
+use Rattle.fw_report.specs.Noted.{Noted, noted_of_book}
+use Rattle.fw_status.specs.Campaigns.{campaigns_of}
+use Rattle.fw_status.specs.declared.campaign.CampaignStatus.{CampaignStatus}
 use Rattle.fw_cli.specs.declared.head.HeadOptions.{HeadOptions}
 use Rattle.fw_cli.specs.Faults.{IsKeyed}
-use Rattle.fw_cli.specs.declared.status.StatusForm.{StatusForm}
-use Rattle.fw_cli.specs.declared.status.StatusForm.TheVariants as form
 
 -- ---- the report of `status`
 
--- whether a row is in this state
-abbrev pub is_in : RowState → RowState → Bool
-is_in state.Live state.Live = true
-is_in state.Done state.Done = true
-is_in state.Failed state.Failed = true
-is_in state.Cancelled state.Cancelled = true
-is_in wanted other = false
-
--- how many rows are
-abbrev pub count_of : RowState → List Noted → ℕ
-count_of wanted rows = length (filter (λ (noted : Noted). is_in wanted noted.row.state) rows)
-
-abbrev pub counts_line : List Noted → List ℕ
-counts_line rows =
-    codes "\nlive " ++ (decimal (count_of state.Live rows) ++ (codes " done " ++ (decimal (count_of state.Done rows) ++ (codes " failed "
-    ++ (decimal (count_of state.Failed rows) ++ (codes " cancelled " ++ (decimal (count_of state.Cancelled rows) ++ codes "\n")))))))
-
-abbrev pub status_data : List Noted → Data
-status_data rows = object (member (codes "cancelled") (number_data (count_of state.Cancelled rows))
-    (member (codes "done") (number_data (count_of state.Done rows)) (member (codes "failed") (number_data (count_of state.Failed rows))
-    (member (codes "live") (number_data (count_of state.Live rows))
-    (member (codes "rows") (array (items_of (map (λ (row : Noted). noted_data row) rows))) no_members)))))
-
--- the rows of the book that bytes hold, with what is known from its notes: of no head end, if it has no record
-abbrev pub HasRows : List ℕ → List Noted → Type 0
-HasRows bytes rows =
-    (Stands bytes [] × (rows ≡ []))
-    ⊎ ((book : Contents) × (known : Known) × HasBook book.head bytes book × HasNotes bytes known × (rows ≡ noted_of_book known book))
-
--- the rows of a book in this form
-abbrev pub status_text : StatusForm → List Noted → List ℕ
-status_text form.Table rows = row_headings ++ (flat_map (λ (row : Noted). row_cells row) rows ++ counts_line rows)
-status_text form.Csv rows = csv_headings ++ flat_map (λ (row : Noted). csv_row row) rows
-status_text form.Json rows = compact_text (status_data rows) ++ codes "\n"
+-- what the book that bytes hold tells of its campaigns and its rows, with what is known from its notes: nothing, if it has no record
+abbrev pub HasStatus : List ℕ → List CampaignStatus → List Noted → Type 0
+HasStatus bytes campaigns rows =
+    (Stands bytes [] × (campaigns ≡ []) × (rows ≡ []))
+    ⊎ ((book : Contents) × (known : Known) × HasBook book.head bytes book × HasNotes bytes known
+    × (campaigns ≡ campaigns_of known book) × (rows ≡ noted_of_book known book))
 
 -- ---- the faults
 
@@ -136,6 +101,7 @@ IsOfStop CounterSpent = Unit {0}
 IsOfStop CaptureFault = Unit {0}
 IsOfStop BookFault = Unit {0}
 IsOfStop Full = Unit {0}
+IsOfStop (TooManyFailed failed) = Unit {0}
 IsOfStop OutOfMemory = Unit {0}
 IsOfStop fault = ⊥
 

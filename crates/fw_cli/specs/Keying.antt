@@ -4,6 +4,8 @@ use Rattle.std.specs.Io.KnownBytes.{Appends}
 use Rattle.fw_faults.specs.declared.fault.Fault.{Fault}
 use Rattle.fw_faults.specs.declared.fault.Fault.TheVariants.{BadList, KeysFault, ListFault, NoRandomness, Output, OutOfMemory}
 use Rattle.fw_host.specs.Lists.{SpellsList}
+use Rattle.fw_host.specs.Waves.{listed_in}
+use Rattle.fw_host.specs.declared.wave_list.Planned.{Planned}
 use Rattle.fw_key_files.specs.Making.{KeyText, all_owners, owners_of, path_in}
 use Rattle.fw_key_files.specs.declared.owner.Owner.{Owner}
 use Rattle.fw_rollout.specs.declared.link.Listed.{Listed}
@@ -28,16 +30,16 @@ lines_of folder files = flat_map (λ (file : KeyText). made_line folder file.own
 -- some text is a list of meters, and a line was written for the head end's file and for each meter's, in order
 pub record TellsKeys (options : KeysOptions) (before after : Option (List ℕ)) : Type 0 where
   pub text : List ℕ
-  pub list : List Listed
+  pub list : List Planned
   pub spells : SpellsList options.listen text list
-  pub told : Appends before after (made_lines options.folder.now (all_owners (numbers_of list)))
+  pub told : Appends before after (made_lines options.folder.now (all_owners (numbers_of (listed_in list))))
 
 -- some text is a list of meters, and these are the files of the head end and of its meters in order
 pub record IsAsked (options : KeysOptions) (files : List KeyText) : Type 0 where
   pub text : List ℕ
-  pub list : List Listed
+  pub list : List Planned
   pub spells : SpellsList options.listen text list
-  pub owners : owners_of files ≡ all_owners (numbers_of list)
+  pub owners : owners_of files ≡ all_owners (numbers_of (listed_in list))
 
 -- of `keys`, before a file is made
 abbrev pub IsOfAsking : Fault → Type 0

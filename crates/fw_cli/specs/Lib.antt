@@ -22,3 +22,4 @@ pub mod Judging
 pub mod Reasons
 pub mod Sealing
 pub mod Telling
+pub mod Waves

@@ -3,6 +3,7 @@
 ghost use Rattle.std.specs.Prelude.{◌≡◌, ◌≢◌, [], IfErr, IfOk, OnErr, OnOk, Some};
 ghost use Rattle.fw_head.specs.Head.{opened_head};
 ghost use Rattle.fw_kept.specs.Head.{head_of};
+ghost use Rattle.fw_host.specs.Waves.{listed_in};
 ghost use Rattle.fw_cli.specs.Beginning.{AreChanges, AreOpenings, Begins, IsOpeningOf, opened_all};
 ghost use Rattle.fw_cli.specs.Cancelling.{cancelled_all};
 ghost use Rattle.fw_cli.specs.Heads.{IsOfBeginning, IsOfCancelling, IsOfJudging, IsOfOpened, IsOfOpening, IsOfOpeningSetup};
@@ -89,7 +90,7 @@ pub(crate) fn judge(
     named: &[SerialRange],
     asked: &Asked,
 ) -> Result<Changes, Fault>
-    ensures changes { IfOk result (λ changes. AreChanges book.now named.now asked.now.opened asked.now.list changes) }
+    ensures changes { IfOk result (λ changes. AreChanges book.now named.now asked.now.opened (listed_in asked.now.list) changes) }
     ensures judged { IfOk result (λ changes. IsJudged book.now asked.now.opened changes) }
     ensures faults { IfErr result (IsOfJudging named.now asked.now.opened) }
 {
@@ -101,7 +102,7 @@ pub(crate) fn judge(
 
 /// The campaigns of what is opened that a book lacks for the meters of the list. There are none if nothing is opened.
 fn missing_of(alloc: Global, book: &Book, asked: &Asked) -> Result<Vec<Part>, Fault>
-    ensures parts { IfOk result (λ parts. AreOpenings asked.now.opened asked.now.list book.now parts.items) }
+    ensures parts { IfOk result (λ parts. AreOpenings asked.now.opened (listed_in asked.now.list) book.now parts.items) }
     ensures faults { IfErr result (IsOfOpened asked.now.opened) }
 {
     match &asked.opened {
@@ -111,7 +112,7 @@ fn missing_of(alloc: Global, book: &Book, asked: &Asked) -> Result<Vec<Part>, Fa
             opened.serial,
             opened.release,
             &opened.image,
-            asked.list.meters(),
+            asked.list.meters().meters(),
         ),
         None => Ok(Vec::new(alloc)),
     }

@@ -49,7 +49,7 @@ fn bytes_of(alloc: Global, sent: &[Datagram]) -> Result<Vec<u8>, Fault>
 }
 
 /// Writes bytes, and flushes them.
-pub(crate) fn write_whole<C: Write>(writer: &mut C, bytes: &[u8]) -> Result<(), Fault>
+fn write_whole<C: Write>(writer: &mut C, bytes: &[u8]) -> Result<(), Fault>
     ensures written { OnOk result (Appends (C.contents writer.old) (C.contents writer.new) bytes.now) }
     ensures faults { IfErr result (λ f. f ≡ Fault.CaptureFault) }
 {

@@ -11,6 +11,7 @@ ghost use Rattle.fw_rollout.specs.Leading.{Leader};
 ghost use Rattle.fw_host.specs.Captures.{IsOfCapture};
 ghost use Rattle.fw_host.specs.Heads.{ComesBeforeLines, IsCancelFault, IsOfHead, IsOfHeadSetup, cancelled_line};
 ghost use Rattle.fw_host.specs.Lists.{SpellsList};
+ghost use Rattle.fw_host.specs.Waves.{listed_in};
 ghost use Rattle.fw_host.specs.Telling.{Told};
 ghost use Rattle.fw_book.specs.Changes.{cancel_refusal, empty_book};
 ghost use Rattle.fw_cli.specs.Beginning.{AreChanges, HasLedOut, HasLedTo, IsDaemonOf, IsOpeningOf};
@@ -20,27 +21,30 @@ ghost use Rattle.fw_cli.specs.Reasons.{reason_of};
 ghost use Rattle.fw_cli.specs.Faults.{IsKeyed};
 ghost use Rattle.fw_cli.specs.Sealing.{IsHeadSealing, links_in, links_of, options_of};
 ghost use Rattle.fw_cli.specs.Telling.{TellsChanges, TellsEnded};
+ghost use Rattle.fw_cli.specs.Waves.{AreWaves};
 
 use crate::beginning::{Changes, Opened, begin, judge, opened_of};
 use crate::capture_file::{CaptureFile, closing, failure_of, reason_of};
 use crate::going_on::{tell_going_on, tell_unlisted};
 use crate::meter::{Listening, RecordedPort, tell_listening};
 use crate::sealing::{JudgedSealing, Keyed, keyed_head};
+use crate::waves::{WaveStop, Waves};
 use fw_blocks::Width;
 use fw_book::Book;
 use fw_disk::Because;
 use fw_faults::{Fault, Reads, read_input};
 use fw_host::{
     BookOptions, CapturePort, ClosedBy, DatagramPort, HeadProgress, Lines, Opening, ProgressOutput,
-    Sealing, SealingOptions, Strangers, UdpHeadPort, cancel, check_absent, kept_head, read_list,
+    Sealing, SealingOptions, Strangers, UdpHeadPort, WaveList, cancel, check_absent, kept_head,
+    read_list,
 };
 use fw_journal::{FileDevice, JournalDevice};
 use fw_kept::KeptHead;
 use fw_names::{CampaignId, HeadId};
-use fw_plan::{SerialRange, UnlistedRow};
+use fw_plan::{MaxFailed, SerialRange, UnlistedRow};
 use fw_port::UdpPort;
 use fw_recording::Sink;
-use fw_rollout::{HeadDaemon, Listed, MeterList, Stop, Timing, serve_head};
+use fw_rollout::{HeadDaemon, Listed, MeterList, Plan, Stop, Timing};
 use fw_sealport::SealedPort;
 use std::alloc::Global;
 use std::fs::File;
@@ -71,6 +75,10 @@ pub struct HeadOptions<'a> {
     pub width: Width,
     /// How answers are waited for.
     pub timing: Timing,
+    /// From when on images are activated, and how long a meter may be silent.
+    pub plan: Plan,
+    /// How many rows of the earlier waves may fail, so that the next one begins.
+    pub max_failed: MaxFailed,
     /// Whether it goes on if no row is live.
     pub stays: bool,
     /// The path of the file of the capture, if one is asked for.
@@ -107,8 +115,8 @@ impl LedOut {
     }
 }
 
-/// The head end leads each live row of its book to its end whose meter is in the list. It may be ended at any moment, and goes on there when
-/// it is run again.
+/// The head end leads each live row of its book to its end whose meter is in the list, wave after wave. It may be ended at any moment, and
+/// goes on there when it is run again.
 ///
 /// If a capture is asked for, its file is gone on with, or made if no file is there. It gets the start of the process, and what is received
 /// and sent, each before it is handled or sent. What comes from addresses that are not in the list is counted in it, unless that is asked for
@@ -146,6 +154,7 @@ impl LedOut {
 ///   `CounterSpent`: all counters are used. Nothing is sent from then on.
 /// - `CancelRefused`, `OpenRefused`: the book's refusal.
 /// - `BookFault`, `Full`: the file can't be made, opened or written. Nothing of what it lacks was reported.
+/// - `TooManyFailed`: so many rows of the waves before the next one failed that it doesn't begin. Its rows and the later ones are live.
 /// - `Output`: the first line can't be written.
 /// - `OutOfMemory`.
 ///
@@ -177,13 +186,14 @@ pub fn run_head<R: Files<File = File> + Clock + Eprint + Net + Wait, W: Write>(
         changes,
         sealing,
     } = set_up(rt, alloc, options)?;
-    let strangers = strangers_of(alloc, options, asked.list.meters())?;
+    let strangers = strangers_of(alloc, options, asked.list.meters().meters())?;
     tell_listening(alloc, writer, at)?;
     tell_going_on(rt, kept.head().view().book);
     let mut lines = Lines::new(alloc, writer);
     begin(alloc, &mut lines, &mut kept, changes, asked.opened.take())?;
-    let unlisted = tell_unlisted(rt, alloc, &kept, &asked.list)?;
-    let mut daemon = daemon_of(alloc, kept, &asked.list, options)?;
+    let unlisted = tell_unlisted(rt, alloc, &kept, asked.list.meters())?;
+    let waves = Waves::of_list(alloc, &asked.list, options.max_failed)?;
+    let mut daemon = daemon_of(alloc, kept, options)?;
     let port = RecordedPort {
         port,
         at,
@@ -192,23 +202,32 @@ pub fn run_head<R: Files<File = File> + Clock + Eprint + Net + Wait, W: Write>(
         capture: options.capture,
         sealing,
     };
-    match lead(rt, alloc, &mut lines, progress, port, &mut daemon, options) {
+    match lead(
+        rt,
+        alloc,
+        &mut lines,
+        progress,
+        port,
+        &mut daemon,
+        &waves,
+        options,
+    ) {
         Ok(()) => Ok(LedOut::of(&unlisted, daemon.counts().failed)),
         Err(because) => Err(of_book(because, daemon.device())),
     }
 }
 
-/// The daemon of a head end that asks the meters of this list, as the options say.
+/// The daemon of a head end, as the options say. It asks no meter yet: each wave has its own list.
 fn daemon_of(
     alloc: Global,
     kept: KeptHead<FileDevice>,
-    list: &MeterList,
     options: &HeadOptions<'_>,
 ) -> Result<HeadDaemon<FileDevice>, Fault>
-    ensures made { IfOk result (IsDaemonOf kept list.now options.now.timing) }
+    ensures made { IfOk result (IsDaemonOf kept options.now.timing options.now.plan) }
     ensures faults { IfErr result (λ f. f ≡ Fault.OutOfMemory) }
 {
-    Ok(HeadDaemon::new(alloc, kept, list, options.timing)?)
+    let nobody = MeterList::none(alloc);
+    Ok(HeadDaemon::new(alloc, kept, &nobody, options.timing, options.plan)?)
 }
 
 /// A fault of a head end whose book is on this device. A fault of the book gets the cause of the device.
@@ -257,7 +276,7 @@ struct Ready {
 
 /// The meters of the list, and what is opened for them.
 pub(crate) struct Asked {
-    pub(crate) list: MeterList,
+    pub(crate) list: WaveList,
     pub(crate) opened: Option<Opened>,
 }
 
@@ -280,9 +299,9 @@ fn set_up<R: Files<File = File> + Clock + Eprint + Net>(
     ensures opened { IfOk result (λ ready. IsTrue (is_some ready.asked.opened) → IsTrue (is_some options.now.opening)) }
     ensures number { IfOk result (λ ready. (book_of ready.kept).head ≡ options.now.head) }
     ensures width { IfOk result (λ ready. BeginsWith (book_of ready.kept) options.now.width (head_of ready.kept)) }
-    ensures changes { IfOk result (λ ready. AreChanges (book_of ready.kept) options.now.cancel.items ready.asked.opened ready.asked.list
+    ensures changes { IfOk result (λ ready. AreChanges (book_of ready.kept) options.now.cancel.items ready.asked.opened (listed_in ready.asked.list)
         ready.changes) }
-    ensures links { IfOk result (λ ready. IsHeadSealing options.now.sealing options.now.head ready.asked.list (links_in ready.sealing)) }
+    ensures links { IfOk result (λ ready. IsHeadSealing options.now.sealing options.now.head (listed_in ready.asked.list) (links_in ready.sealing)) }
     ensures asked { IfErr result (λ b. IsAskedFor options.now b.error) }
     ensures faults { IfErr result (λ b. IsOfHeadSetup b.error) }
 {
@@ -292,7 +311,7 @@ fn set_up<R: Files<File = File> + Clock + Eprint + Net>(
         alloc,
         options.sealing,
         options.head,
-        asked.list.meters(),
+        asked.list.meters().meters(),
     )?;
     let Listening { port, at } = Listening::of(UdpPort::bind_for(rt, options.listen, WAIT_LIMIT))?;
     let Led {
@@ -328,7 +347,7 @@ fn asked_of<F: Files<File = File> + Clock + Net>(
     let Some(opening) = options.opening else {
         return Ok(Asked { list, opened: None });
     };
-    let opened = opened_of(rt, alloc, opening, list.meters())?;
+    let opened = opened_of(rt, alloc, opening, list.meters().meters())?;
     Ok(Asked {
         list,
         opened: Some(opened),
@@ -357,7 +376,7 @@ fn led_head<R: Files<File = File> + Clock + Eprint>(
     requires keyed { options_of keyed ≡ options.now.sealing }
     ensures number { IfOk result (λ led. (book_of led.kept).head ≡ options.now.head) }
     ensures width { IfOk result (λ led. BeginsWith (book_of led.kept) options.now.width (head_of led.kept)) }
-    ensures changes { IfOk result (λ led. AreChanges (book_of led.kept) options.now.cancel.items asked.now.opened asked.now.list led.changes) }
+    ensures changes { IfOk result (λ led. AreChanges (book_of led.kept) options.now.cancel.items asked.now.opened (listed_in asked.now.list) led.changes) }
     ensures links { IfOk result (λ led. links_in led.sealing ≡ links_of keyed.entry) }
     ensures asked { IfErr result (λ b. IsAskedFor options.now b.error) }
     ensures faults { IfErr result (λ b. IsOfHeadSetup b.error) }
@@ -381,7 +400,7 @@ fn old_head<R: Files<File = File> + Clock + Eprint>(
     requires keyed { options_of keyed ≡ options.now.sealing }
     ensures number { IfOk result (λ led. (book_of led.kept).head ≡ options.now.head) }
     ensures width { IfOk result (λ led. BeginsWith (book_of led.kept) options.now.width (head_of led.kept)) }
-    ensures changes { IfOk result (λ led. AreChanges (book_of led.kept) options.now.cancel.items asked.now.opened asked.now.list led.changes) }
+    ensures changes { IfOk result (λ led. AreChanges (book_of led.kept) options.now.cancel.items asked.now.opened (listed_in asked.now.list) led.changes) }
     ensures links { IfOk result (λ led. links_in led.sealing ≡ links_of keyed.entry) }
     ensures asked { IfErr result (λ b. IsAskedFor options.now b.error) }
     ensures faults { IfErr result (λ b. IsOfHeadSetup b.error) }
@@ -412,7 +431,7 @@ fn new_head<R: Files<File = File> + Clock + Eprint>(
     requires keyed { options_of keyed ≡ options.now.sealing }
     ensures number { IfOk result (λ led. (book_of led.kept).head ≡ options.now.head) }
     ensures width { IfOk result (λ led. BeginsWith (book_of led.kept) options.now.width (head_of led.kept)) }
-    ensures changes { IfOk result (λ led. AreChanges (book_of led.kept) options.now.cancel.items asked.now.opened asked.now.list led.changes) }
+    ensures changes { IfOk result (λ led. AreChanges (book_of led.kept) options.now.cancel.items asked.now.opened (listed_in asked.now.list) led.changes) }
     ensures links { IfOk result (λ led. links_in led.sealing ≡ links_of keyed.entry) }
     ensures asked { IfErr result (λ b. IsAskedFor options.now b.error) }
     ensures faults { IfErr result (λ b. IsOfHeadSetup b.error) }
@@ -437,12 +456,12 @@ fn made_head<R: Files<File = File> + Clock + Eprint>(
     keyed: Option<Keyed<'_>>,
 ) -> Result<Led, Because<Fault>>
     requires is_new { IsTrue options.now.book.is_new }
-    requires changes { AreChanges (empty_book options.now.head) options.now.cancel.items asked.now.opened asked.now.list changes }
+    requires changes { AreChanges (empty_book options.now.head) options.now.cancel.items asked.now.opened (listed_in asked.now.list) changes }
     requires judged { IsJudged (empty_book options.now.head) asked.now.opened changes }
     requires keyed { options_of keyed ≡ options.now.sealing }
     ensures number { IfOk result (λ led. (book_of led.kept).head ≡ options.now.head) }
     ensures width { IfOk result (λ led. BeginsWith (book_of led.kept) options.now.width (head_of led.kept)) }
-    ensures changes { IfOk result (λ led. AreChanges (book_of led.kept) options.now.cancel.items asked.now.opened asked.now.list led.changes) }
+    ensures changes { IfOk result (λ led. AreChanges (book_of led.kept) options.now.cancel.items asked.now.opened (listed_in asked.now.list) led.changes) }
     ensures links { IfOk result (λ led. links_in led.sealing ≡ links_of keyed.entry) }
     ensures asked { IfErr result (λ b. IsAskedFor options.now b.error) }
     ensures faults { IfErr result (λ b. IsOfHeadSetup b.error) }
@@ -465,7 +484,7 @@ pub(crate) fn list_of_file<F: Files<File = File> + Net>(
     alloc: Global,
     path: &str,
     own: SocketAddr,
-) -> Result<MeterList, Fault>
+) -> Result<WaveList, Fault>
     ensures list { IfOk result (λ list. (text : List ℕ) × SpellsList own text list) }
     ensures faults { IfErr result IsOfList }
 {
@@ -522,8 +541,8 @@ pub(crate) fn cancel_one<W: Write>(
     Ok(())
 }
 
-/// Leads the rows to their ends, and writes how many ended how. It returns `Ok` once none is live and all that ended is on the device, and
-/// never where it stays. Why a book failed the device knows.
+/// Leads the rows to their ends, wave after wave, and writes how many ended how. It returns `Ok` once none is live and all that ended is on the
+/// device, and never where it stays. Why a book failed the device knows.
 fn lead<R: Clock + Eprint + Wait, W: Write, D: JournalDevice + Drop>(
     rt: &R,
     alloc: Global,
@@ -531,14 +550,19 @@ fn lead<R: Clock + Eprint + Wait, W: Write, D: JournalDevice + Drop>(
     output: ProgressOutput,
     port: RecordedPort<'_>,
     daemon: &mut HeadDaemon<D>,
+    waves: &Waves<'_>,
     options: &HeadOptions<'_>,
 ) -> Result<(), Because<Fault>>
     // It waits for answers, and has as many datagrams out, as the options say.
     requires waits { timing_of daemon.old ≡ options.now.timing }
 
+    // As many rows may fail before a wave as the options say.
+    requires waves { AreWaves waves.now.list.now options.now.max_failed waves.now }
+
     // If keys are given, its links are those of their file with its meters. Without keys it has none.
-    requires links { IsHeadSealing options.now.sealing options.now.head (meters_of daemon.old) (links_in port.sealing) }
+    requires links { IsHeadSealing options.now.sealing options.now.head (listed_in waves.now.list.now) (links_in port.sealing) }
     ensures over { (now : Leader) → IsLed D.honest D.contents D.may_leave daemon.new now → OnOk result (IsOver now) }
+    ensures asks { OnOk result (meters_of daemon.new ≡ listed_in waves.now.list.now) }
     ensures ran_out { OnOk result (HasRunOut daemon.new) }
     ensures stays { OnOk result (options.now.stays ≡ false) }
     ensures asked { IfErr result (λ b. IsOfCapture b.error → IsTrue (is_some port.entry.capture)) }
@@ -560,19 +584,22 @@ fn lead<R: Clock + Eprint + Wait, W: Write, D: JournalDevice + Drop>(
         Some(Sealing { links, counters }) => {
             let port = SealedPort::new(alloc, port, links, counters);
             let mut port = UdpHeadPort::new(rt, port, lines, clears);
-            lead_sealed(rt, &mut port, output, daemon, options)
+            lead_sealed(rt, &mut port, output, daemon, waves, options)
         }
         None => {
             let mut port = UdpHeadPort::new(rt, port, lines, clears);
-            lead_plain(rt, &mut port, output, daemon, options)
+            lead_plain(rt, &mut port, output, daemon, waves, options)
         }
     };
     match led {
         Ok(()) => {}
-        Err((Stop::Closed, by)) => {
+        Err((WaveStop::Stop(Stop::Closed), by)) => {
             return Err(closing(capture, options.sealing, by, failure_of(file.as_ref())));
         }
-        Err((stop, _)) => return Err(Because::from(Fault::from(stop))),
+        Err((WaveStop::Stop(stop), _)) => return Err(Because::from(Fault::from(stop))),
+        Err((WaveStop::TooManyFailed(stop), _)) => {
+            return Err(Because::from(Fault::TooManyFailed(stop.failed)));
+        }
     }
     let counts = daemon.counts();
     lines.tell_over(counts);
@@ -585,14 +612,16 @@ fn lead_plain<R: Clock + Eprint + Wait, W: Write, V: Sink + Drop, D: JournalDevi
     port: &mut UdpHeadPort<'_, '_, R, W, CapturePort<'_, R, V>>,
     output: ProgressOutput,
     daemon: &mut HeadDaemon<D>,
+    waves: &Waves<'_>,
     options: &HeadOptions<'_>,
-) -> Result<(), (Stop, ClosedBy)>
+) -> Result<(), (WaveStop, ClosedBy)>
     requires plain { options.now.sealing ≡ None }
     ensures over { (now : Leader) → IsLed D.honest D.contents D.may_leave daemon.new now → OnOk result (IsOver now) }
+    ensures asks { OnOk result (meters_of daemon.new ≡ listed_in waves.now.list.now) }
     ensures ran_out { OnOk result (HasRunOut daemon.new) }
     ensures stays { OnOk result (options.now.stays ≡ false) }
 {
-    lead_over(rt, port, output, daemon, options.stays)
+    lead_over(rt, port, output, daemon, waves, options.stays)
 }
 
 /// Leads the rows of a head end to their ends over the links of its keys alone. If it doesn't, it returns why its port is closed too, if it
@@ -602,14 +631,16 @@ fn lead_sealed<R: Clock + Eprint + Wait, W: Write, V: Sink + Drop, D: JournalDev
     port: &mut UdpHeadPort<'_, '_, R, W, SealedPort<CapturePort<'_, R, V>, FileDevice>>,
     output: ProgressOutput,
     daemon: &mut HeadDaemon<D>,
+    waves: &Waves<'_>,
     options: &HeadOptions<'_>,
-) -> Result<(), (Stop, ClosedBy)>
-    requires links { IsHeadSealing options.now.sealing options.now.head (meters_of daemon.old) (Some port.old.port.links) }
+) -> Result<(), (WaveStop, ClosedBy)>
+    requires links { IsHeadSealing options.now.sealing options.now.head (listed_in waves.now.list.now) (Some port.old.port.links) }
     ensures over { (now : Leader) → IsLed D.honest D.contents D.may_leave daemon.new now → OnOk result (IsOver now) }
+    ensures asks { OnOk result (meters_of daemon.new ≡ listed_in waves.now.list.now) }
     ensures ran_out { OnOk result (HasRunOut daemon.new) }
     ensures stays { OnOk result (options.now.stays ≡ false) }
 {
-    lead_over(rt, port, output, daemon, options.stays)
+    lead_over(rt, port, output, daemon, waves, options.stays)
 }
 
 /// Leads the rows to their ends over this port, and shows how far they are.
@@ -618,29 +649,33 @@ fn lead_over<R: Clock + Eprint + Wait, W: Write, P: DatagramPort + Drop, D: Jour
     port: &mut UdpHeadPort<'_, '_, R, W, P>,
     output: ProgressOutput,
     daemon: &mut HeadDaemon<D>,
+    waves: &Waves<'_>,
     stays: bool,
-) -> Result<(), (Stop, ClosedBy)>
+) -> Result<(), (WaveStop, ClosedBy)>
     ensures over { (now : Leader) → IsLed D.honest D.contents D.may_leave daemon.new now → OnOk result (IsOver now) }
+    ensures asks { OnOk result (meters_of daemon.new ≡ listed_in waves.now.list.now) }
     ensures ran_out { OnOk result (HasRunOut daemon.new) }
     ensures stays { OnOk result (stays ≡ false) }
 {
     let mut progress = HeadProgress::new(rt, output);
-    match lead_told(rt, port, daemon, stays, &mut progress) {
+    match lead_told(rt, port, daemon, waves, stays, &mut progress) {
         Ok(()) => Ok(()),
         Err(stop) => Err((stop, port.closed_by())),
     }
 }
 
-/// Leads the rows to their ends over this port, and writes the line of each row that ended, once and in order. It returns as `serve_head`
-/// does.
+/// Leads the rows to their ends over this port, and writes the line of each row that ended, once and in order. It returns as
+/// `Waves::lead` does.
 fn lead_told<R: Clock + Eprint + Wait, W: Write, P: DatagramPort + Drop, D: JournalDevice + Drop>(
     rt: &R,
     port: &mut UdpHeadPort<'_, '_, R, W, P>,
     daemon: &mut HeadDaemon<D>,
+    waves: &Waves<'_>,
     stays: bool,
     progress: &mut HeadProgress<'_, R>,
-) -> Result<(), Stop>
+) -> Result<(), WaveStop>
     ensures over { (now : Leader) → IsLed D.honest D.contents D.may_leave daemon.new now → OnOk result (IsOver now) }
+    ensures asks { OnOk result (meters_of daemon.new ≡ listed_in waves.now.list.now) }
     ensures ran_out { OnOk result (HasRunOut daemon.new) }
     ensures stays { OnOk result (stays ≡ false) }
     ensures lines { port.new.lines.ghost_name ≡ port.old.lines.ghost_name }
@@ -648,5 +683,5 @@ fn lead_told<R: Clock + Eprint + Wait, W: Write, P: DatagramPort + Drop, D: Jour
     ensures told { TellsEnded (counted_of daemon.old) (counted_of daemon.new) [] port.old.lines.now.lost port.new.lines.now.lost
         (W.contents port.old.lines.now.writer.now) (W.contents port.new.lines.now.writer.now) }
 {
-    serve_head(rt, port, daemon, stays, progress)
+    waves.lead(rt, port, daemon, stays, progress)
 }

@@ -114,7 +114,7 @@ fn files_of<F: Files<File = File> + Net + RandomSource>(
     ensures faults { IfErr result IsOfAsking }
 {
     let list = list_of_file(rt, alloc, options.meters, options.listen)?;
-    let meters = numbers_of(alloc, list.meters())?;
+    let meters = numbers_of(alloc, list.meters().meters())?;
     let making = MakingKeys {
         head: options.head,
         address: options.listen,

@@ -25,6 +25,7 @@ mod serving;
 mod status;
 mod stored;
 mod trace;
+mod waves;
 mod workers;
 
 pub use answer::{AnswerOptions, run_answer};
@@ -37,6 +38,6 @@ pub use meter::{MeterFault, MeterOptions, run_meter};
 pub use name::{NameOptions, run_name};
 pub use rehearse::{RehearseOptions, run_rehearse};
 pub use replay::{Ended, ReplayOptions, Rounds, run_replay};
-pub use status::{StatusForm, StatusOptions, run_status};
+pub use status::{StatusOptions, run_status};
 pub use stored::{StoredOptions, run_answer_stored};
 pub use trace::{TraceKeys, run_trace, trace_links};

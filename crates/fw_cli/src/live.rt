@@ -12,7 +12,7 @@ ghost use Rattle.fw_cli.specs.Scripts.{EndsBy, MakesNoneFor};
 
 use crate::capture::write_capture;
 use crate::progress::RowsGate;
-use crate::workers::{Told, script_from, tell_report};
+use crate::workers::{Told, fault_of, script_from, tell_report};
 use fw_faults::{Fault, write_text};
 use fw_script::Script;
 use fw_workers::live;
@@ -96,7 +96,10 @@ fn tell_live<T: Threads + Wait + Net + Sync, E: Eprint + Sync>(
         trace,
     } = *options;
     let gate = RowsGate::new(terminal, events);
-    let report = live(rt, alloc, setup, events, rounds, workers, &gate)?;
+    let report = match live(rt, alloc, setup, events, rounds, workers, &gate) {
+        Ok(report) => report,
+        Err(error) => return Err(fault_of(error)),
+    };
     let text = tell_report(alloc, setup, events, &report, trace)?;
     Ok(Told {
         text,

@@ -16,7 +16,7 @@ ghost use Rattle.fw_cli.specs.Scripts.{EndsBy, MakesNoneFor};
 use crate::capture::write_capture;
 use crate::progress::RowsGate;
 use crate::replay::{Air, Rounds, air_of};
-use crate::workers::{Told, script_from, tell_report};
+use crate::workers::{Told, fault_of, script_from, tell_report};
 use fw_air::Fates;
 use fw_faults::{Fault, write_text};
 use fw_script::Script;
@@ -151,7 +151,10 @@ fn tell_rehearsal<T: Threads + Wait + Sync, E: Eprint + Sync>(
         unreachable!()
     };
     let gate = RowsGate::new(terminal, events);
-    let report = rehearse(rt, alloc, setup, events, air.rounds, workers, &fates, &gate)?;
+    let report = match rehearse(rt, alloc, setup, events, air.rounds, workers, &fates, &gate) {
+        Ok(report) => report,
+        Err(error) => return Err(fault_of(error)),
+    };
     let text = tell_report(alloc, setup, events, &report, trace)?;
     Ok(Told {
         text,

@@ -1,40 +1,24 @@
-//! The command `status`: how far the rows of a book are, also while a head end has it.
+//! The command `status`: how far the rows and the campaigns of a book are, also while a head end has it.
 
-ghost use Rattle.std.specs.Prelude.{◌≡◌, ◌≢◌, ◌++◌, ℕ, List, flat_map, IfErr, IfOk, OnOk, string_bytes};
+ghost use Rattle.std.specs.Prelude.{◌≡◌, ◌≢◌, ℕ, List, IfErr, IfOk, OnOk};
 ghost use Rattle.std.specs.Io.KnownBytes.{Appends, Keeps};
 ghost use Rattle.fw_journal.specs.Book.{Drops};
-ghost use Rattle.serde_json.specs.View.{view};
-ghost use Rattle.serde_json.specs.Written.{compact_text};
 ghost use Rattle.fw_report.specs.Noted.{Noted};
-ghost use Rattle.fw_cli.specs.Heads.{HasRows, IsOfReport, IsOfStatus, SaysWhy, count_of, counts_line, is_in, status_data, status_text};
+ghost use Rattle.fw_status.specs.Forms.{Tells};
+ghost use Rattle.fw_status.specs.declared.campaign.CampaignStatus.{CampaignStatus};
+ghost use Rattle.fw_cli.specs.Heads.{HasStatus, IsOfReport, IsOfStatus, SaysWhy};
 
-use fw_book::RowState;
 use fw_disk::{Because, Cause, Name};
 use fw_faults::{Fault, write_text};
 use fw_host::untaken_line;
 use fw_kept::read_kept;
-use fw_report::table::ROW_HEADINGS;
-use fw_report::{NotedRow, append_noted, append_noted_csv, push_noted, push_noted_values};
-use serde_json::{Value, json};
-use std::alloc::{AllocError, Global};
+use fw_report::{NotedRow, push_noted};
+use fw_status::{CampaignStatus, Listing, StatusForm, append_status, push_campaigns};
+use std::alloc::Global;
 use std::fs::File;
 use std::io;
 use std::io::{ErrorKind, Read, Write};
 use std::rt::Files;
-
-/// The headings of comma-separated values.
-const CSV_HEADINGS: &str = "head,campaign,meter,state,opened,ended,reason\n";
-
-/// The form of the report.
-#[derive(Clone, Copy)]
-pub enum StatusForm {
-    /// A table with headings, and how many rows are in which state.
-    Table,
-    /// Comma-separated values (RFC 4180) with a header line.
-    Csv,
-    /// One object of JSON (RFC 8259), on one line.
-    Json,
-}
 
 /// The options of the command.
 #[derive(Clone, Copy)]
@@ -43,10 +27,21 @@ pub struct StatusOptions<'a> {
     pub book: &'a str,
     /// The form of the report.
     pub report: StatusForm,
+    /// What it lists.
+    pub listing: Listing,
 }
 
-/// Writes how far each row of the book in the file is. The file is read alone, and may be another program's meanwhile: what it has is then
-/// what it had on some commit. Standard error is told of records that stand behind its shut gate, as those of a commit that isn't done.
+/// What a book tells, and how many whole records stand behind its shut gate.
+#[derive(Drop)]
+struct Reading {
+    campaigns: Vec<CampaignStatus>,
+    rows: Vec<NotedRow>,
+    untaken: usize,
+}
+
+/// Writes how far each row, or each campaign, of the book in the file is. The file is read alone, and may be another program's meanwhile: what
+/// it has is then what it had on some commit. Standard error is told of records that stand behind its shut gate, as those of a commit that
+/// isn't done.
 ///
 /// # Errors
 ///
@@ -60,38 +55,46 @@ pub fn run_status<F: Files<File = File> + Eprint, W: Write>(
     writer: &mut W,
     options: &StatusOptions<'_>,
 ) -> Result<(), Because<Fault>>
-    // Of the file's contents nothing is known here, so the bytes are some. The report is of all rows of the book that they hold.
-    ensures ok { OnOk result ((bytes : List ℕ) × (rows : List Noted) × HasRows bytes rows
-        × Appends (W.contents writer.old) (W.contents writer.new) (status_text options.now.report rows)) }
+    // Of the file's contents nothing is known here, so the bytes are some. The report is of the book that they hold.
+    ensures ok { OnOk result ((bytes : List ℕ) × (campaigns : List CampaignStatus) × (rows : List Noted) × HasStatus bytes campaigns rows
+        × (text : List ℕ) × Tells options.now.report options.now.listing campaigns rows text
+        × Appends (W.contents writer.old) (W.contents writer.new) text) }
     ensures silent { IfErr result (λ b. b.error ≢ Fault.Output → Keeps (W.contents writer.old) (W.contents writer.new)) }
     ensures reason { IfErr result (λ b. SaysWhy b.error b.reason) }
     ensures faults { IfErr result (λ b. IsOfStatus b.error) }
 {
     let bytes = bytes_of_book(rt, alloc, options.book)?;
-    match tell_status(rt, alloc, writer, &bytes, options.report) {
+    match tell_status(rt, alloc, writer, &bytes, options.report, options.listing) {
         Ok(()) => Ok(()),
         Err(fault) => Err(Because::from(fault)),
     }
 }
 
-/// Writes how far each row of the book is that these bytes hold.
+/// Writes what the book tells that these bytes hold.
 fn tell_status<F: Eprint, W: Write>(
     rt: &F,
     alloc: Global,
     writer: &mut W,
     bytes: &[u8],
     report: StatusForm,
+    listing: Listing,
 ) -> Result<(), Fault>
-    ensures ok { OnOk result ((rows : List Noted) × HasRows bytes.now rows
-        × Appends (W.contents writer.old) (W.contents writer.new) (status_text report rows)) }
+    ensures ok { OnOk result ((campaigns : List CampaignStatus) × (rows : List Noted) × HasStatus bytes.now campaigns rows
+        × (text : List ℕ) × Tells report listing campaigns rows text
+        × Appends (W.contents writer.old) (W.contents writer.new) text) }
     ensures silent { IfErr result (λ f. f ≢ Fault.Output → Keeps (W.contents writer.old) (W.contents writer.new)) }
     ensures faults { IfErr result IsOfReport }
 {
-    let (rows, untaken) = rows_of(alloc, bytes)?;
+    let Reading {
+        campaigns,
+        rows,
+        untaken,
+    } = reading_of(alloc, bytes)?;
     if untaken > 0 {
         tell_untaken(rt, alloc, untaken);
     }
-    let text = status_of(alloc, &rows, report)?;
+    let mut text = String::new(alloc);
+    append_status(alloc, &mut text, report, listing, &campaigns, &rows)?;
     write_text(writer, text.as_str())
 }
 
@@ -137,110 +140,27 @@ fn refused(error: io::Error) -> Because<Fault>
     }
 }
 
-/// The rows of the book that these bytes hold, and how many whole records stand behind its shut gate.
-fn rows_of(alloc: Global, bytes: &[u8]) -> Result<(Vec<NotedRow>, usize), Fault>
-    ensures rows { IfOk result (λ r. HasRows bytes.now r.0.items) }
-    ensures untaken { IfOk result (λ r. (rest : List ℕ) × Drops bytes.now rest r.1) }
+/// What the book tells that these bytes hold.
+fn reading_of(alloc: Global, bytes: &[u8]) -> Result<Reading, Fault>
+    ensures status { IfOk result (λ r. HasStatus bytes.now r.campaigns.items r.rows.items) }
+    ensures untaken { IfOk result (λ r. (rest : List ℕ) × Drops bytes.now rest r.untaken) }
     ensures faults { IfErr result IsOfReport }
 {
+    let mut campaigns = Vec::new(alloc);
     let mut rows = Vec::new(alloc);
     let (book, notes, untaken) = read_kept(alloc, bytes)?;
     let Some(book) = book else {
-        return Ok((rows, untaken));
+        return Ok(Reading {
+            campaigns,
+            rows,
+            untaken,
+        });
     };
+    push_campaigns(&mut campaigns, &book, &notes)?;
     push_noted(&mut rows, &book, &notes)?;
-    Ok((rows, untaken))
-}
-
-/// The report of rows in this form.
-fn status_of(alloc: Global, rows: &[NotedRow], form: StatusForm) -> Result<String, AllocError>
-    ensures { IfOk result (λ text. string_bytes text ≡ status_text form rows.now) }
-{
-    let mut text = String::new(alloc);
-    match form {
-        StatusForm::Table => append_status_table(&mut text, rows)?,
-        StatusForm::Csv => append_csv(&mut text, rows)?,
-        StatusForm::Json => append_status_json(alloc, &mut text, rows)?,
-    }
-    Ok(text)
-}
-
-/// How many rows are in this state.
-fn count_of(rows: &[NotedRow], state: RowState) -> usize
-    ensures { result ≡ count_of state rows.now }
-{
-    rows.iter()
-        .filter(|noted| is_in(state, noted.row.state))
-        .count()
-}
-
-/// Whether a row in the second state is in the first.
-fn is_in(wanted: RowState, state: RowState) -> bool
-    ensures { result ≡ is_in wanted state }
-{
-    wanted == state
-}
-
-/// Appends a table of rows, and how many are in which state.
-fn append_status_table(text: &mut String, rows: &[NotedRow]) -> Result<(), AllocError>
-    ensures { OnOk result (string_bytes text.new ≡ string_bytes text.old ++ status_text StatusForm.Table rows.now) }
-{
-    text.push_str(ROW_HEADINGS)?;
-    append_noted(text, rows)?;
-    append_counts(text, rows)
-}
-
-/// Appends how many rows are in which state.
-fn append_counts(text: &mut String, rows: &[NotedRow]) -> Result<(), AllocError>
-    ensures { OnOk result (string_bytes text.new ≡ string_bytes text.old ++ counts_line rows.now) }
-{
-    let live = count_of(rows, RowState::Live);
-    let done = count_of(rows, RowState::Done);
-    let failed = count_of(rows, RowState::Failed);
-    let cancelled = count_of(rows, RowState::Cancelled);
-    write!(
-        text,
-        "\nlive {live} done {done} failed {failed} cancelled {cancelled}\n"
-    )
-}
-
-/// Appends rows as comma-separated values. No number and no word needs quotes.
-fn append_csv(text: &mut String, rows: &[NotedRow]) -> Result<(), AllocError>
-    ensures { OnOk result (string_bytes text.new ≡ string_bytes text.old ++ status_text StatusForm.Csv rows.now) }
-{
-    text.push_str(CSV_HEADINGS)?;
-    append_noted_csv(text, rows)?;
-    Ok(())
-}
-
-/// Appends rows as JSON, with how many are in which state.
-fn append_status_json(alloc: Global, text: &mut String, rows: &[NotedRow]) -> Result<(), AllocError>
-    ensures { OnOk result (string_bytes text.new ≡ string_bytes text.old ++ status_text StatusForm.Json rows.now) }
-{
-    let json = json_text(alloc, rows)?;
-    text.push_str(json.as_str())?;
-    text.push_str("\n")
-}
-
-/// The text of rows as JSON, without its line feed.
-fn json_text(alloc: Global, rows: &[NotedRow]) -> Result<String, AllocError>
-    ensures { IfOk result (λ text. string_bytes text ≡ compact_text (status_data rows.now)) }
-{
-    let value = status_value(alloc, rows)?;
-    value.to_string(alloc)
-}
-
-/// Rows as a value of JSON.
-fn status_value(alloc: Global, rows: &[NotedRow]) -> Result<Value, AllocError>
-    ensures { IfOk result (λ v. view v ≡ status_data rows.now) }
-{
-    let mut values = Vec::new(alloc);
-    push_noted_values(alloc, &mut values, rows)?;
-    json!(in alloc; {
-        "cancelled": count_of(rows, RowState::Cancelled),
-        "done": count_of(rows, RowState::Done),
-        "failed": count_of(rows, RowState::Failed),
-        "live": count_of(rows, RowState::Live),
-        "rows": Value::Array(values),
+    Ok(Reading {
+        campaigns,
+        rows,
+        untaken,
     })
 }

@@ -1,22 +1,20 @@
 //! The command `trace`: what a capture tells.
 
-ghost use Rattle.std.specs.Prelude.{◌≡◌, ◌≤◌, ◌⊎◌, ℕ, List, None, Option, Some, IfErr, IfOk, IsTrue, OnErr, OnOk, false, is_some};
-ghost use Rattle.std.specs.Io.KnownBytes.{Keeps};
+ghost use Rattle.std.specs.Prelude.{◌≡◌, ◌≢◌, ◌⊎◌, ℕ, List, None, Some, IfErr, IfOk, IsTrue, OnOk, is_some};
 ghost use Rattle.std.specs.Option.{option_map};
 ghost use Rattle.fw_capture.specs.declared.fault.CaptureError.{CaptureError};
-ghost use Rattle.fw_dissect.specs.Captures.{IsPlainCapture};
-ghost use Rattle.fw_faults.specs.Reading.{Gives, ReadsUntil, max_input};
+ghost use Rattle.fw_dissect.specs.Streams.{Dissects, TellsFront};
 ghost use Rattle.fw_host.specs.Sealings.{IsOfMeterKeys};
 ghost use Rattle.fw_keys.specs.declared.error.BadLine.{BadLine as Why};
 ghost use Rattle.fw_keys.specs.Refusals.{NoHeadKeys};
-ghost use Rattle.fw_cli.specs.Faults.{ComesBeforeOutput, IsOfTrace};
-ghost use Rattle.fw_cli.specs.Tracing.{AreOfFile, WritesPlainIf, WritesTrace};
+ghost use Rattle.fw_cli.specs.Faults.{IsOfTrace};
+ghost use Rattle.fw_cli.specs.Tracing.{AreOfFile, CountsAsCut};
+ghost use Rattle.fw_cli.specs.Private.{fault_of_trace};
 
-use crate::capture::write_whole;
-use fw_capture::AppendError;
+use fw_capture::{CaptureError, CaptureFault};
 use fw_disk::Because;
-use fw_dissect::{dissect, plain_capture};
-use fw_faults::{Fault, Reads, read_input, write_text};
+use fw_dissect::{DissectError, dissect};
+use fw_faults::Fault;
 use fw_host::fault_of_key_file;
 use fw_key_files::head_keys;
 use fw_names::HeadId;
@@ -77,20 +75,23 @@ pub fn trace_links<F: Files<File = File>>(
 ///
 /// What the other end of one of these links sealed is opened, and `sealed N` stands before what it says, with its invocation counter. What has
 /// the form of a sealing and opens under none of them is `sealed N unopened (K bytes)`. If there is a writer of captures, it gets the capture
-/// in plain words, before the lines are written.
+/// in plain words.
 ///
 /// A capture doesn't say which end is a meter: a request is for a meter, and anything else for a head end.
 ///
-/// All input is read before anything is written, and what is written is flushed, also before a `BadCapture`.
+/// The capture may be of any length: one record is in memory at a time, and its line is written before the next one is taken. Of those before
+/// it the number of the next datagram and the offset of the next record are kept, and nothing of the ends that they are from or for.
 ///
 /// # Errors
 ///
-/// - `Input` or `TooMuchInput`, whichever the reading meets first.
-/// - `BadCapture`: the first fault of the capture, with the offset of its record, or 0 for the file header. What stands before it was told.
-/// - `CaptureFault`: the writer of captures failed, and what it holds then is unspecified. Or a datagram makes no record, and nothing was
-///   written.
+/// What stands before it was told, unless it is `Output`, and nothing else.
+///
+/// - `BadCapture`: the first fault of the capture, with the offset of its record, or 0 for the file header. A record that says that it has more
+///   than 64 MiB isn't taken, and counts as cut.
+/// - `Input`: the reader failed, or came to no end.
+/// - `CaptureFault`: the writer of captures failed, and what it holds then is unspecified. Or a datagram makes no record.
 /// - `Output`: the writer failed. What it holds then is unspecified.
-/// - `OutOfMemory`: nothing was written, and 1 byte to 64 MiB were read, or none if there is a writer of captures.
+/// - `OutOfMemory`.
 pub fn run_trace<R: Read, W: Write, C: Write>(
     alloc: Global,
     links: &[Link],
@@ -100,61 +101,38 @@ pub fn run_trace<R: Read, W: Write, C: Write>(
     plain: &mut Option<C>,
 ) -> Result<(), Fault>
     // All of the capture is reported, or what stands before its first fault.
-    ensures ok { OnOk result (WritesTrace times links.now None (R.remaining reader.old) (R.remaining reader.new)
+    ensures ok { OnOk result (Dissects times links.now None (R.remaining reader.old) (R.remaining reader.new)
         (W.contents writer.old) (W.contents writer.new) (option_map C.contents plain.old) (option_map C.contents plain.new)) }
     ensures bad_capture { (error : CaptureError) → result ≡ Err (Fault.BadCapture error)
-        → WritesTrace times links.now (Some error) (R.remaining reader.old) (R.remaining reader.new)
-        (W.contents writer.old) (W.contents writer.new) (option_map C.contents plain.old) (option_map C.contents plain.new) }
+        → Dissects times links.now (Some error) (R.remaining reader.old) (R.remaining reader.new)
+        (W.contents writer.old) (W.contents writer.new) (option_map C.contents plain.old) (option_map C.contents plain.new)
+        ⊎ CountsAsCut (R.remaining reader.old) error }
 
-    // How far the reading was.
-    ensures reading { IfErr result (λ f. ReadsUntil f (R.remaining reader.old) (R.remaining reader.new)) }
-    ensures memory { result ≡ Err Fault.OutOfMemory
-        → Gives (R.remaining reader.old) (R.remaining reader.new) (λ count. (is_some plain.old ≡ false → 1 ≤ count) × (count ≤ max_input)) }
-
-    ensures silent { IfErr result (λ f. ComesBeforeOutput f → Keeps (W.contents writer.old) (W.contents writer.new)) }
+    // Whatever ends it, what was told are its first records.
+    ensures front { IfErr result (λ f. f ≢ Fault.Output
+        → TellsFront times links.now (R.remaining reader.old) (W.contents writer.old) (W.contents writer.new)) }
     ensures asked { result ≡ Err Fault.CaptureFault → IsTrue (is_some plain.old) }
     ensures faults { IfErr result IsOfTrace }
 {
-    let mut reads = Reads::none();
-    let capture = read_input(alloc, reader, &mut reads)?;
-    let dissection = dissect(alloc, links, times, &capture)?;
-    match write_plain(alloc, links, &capture, plain) {
-        Ok(()) => {}
-        Err(fault) => return Err(fault),
-    }
-    write_text(writer, dissection.text.as_str())?;
-    match dissection.fault {
-        None => Ok(()),
-        Some(error) => Err(Fault::BadCapture(error)),
+    match dissect(alloc, links, times, reader, writer, plain) {
+        Ok(None) => Ok(()),
+        Ok(Some(error)) => Err(Fault::BadCapture(error)),
+        Err(error) => Err(fault_of(error)),
     }
 }
 
-/// Writes a capture in plain words, if there is a writer for it, and flushes it.
-fn write_plain<C: Write>(
-    alloc: Global,
-    links: &[Link],
-    capture: &[u8],
-    writer: &mut Option<C>,
-) -> Result<(), Fault>
-    ensures written { OnOk result (WritesPlainIf links.now capture.now (option_map C.contents writer.old) (option_map C.contents writer.new)) }
-    ensures asked { OnErr result (IsTrue (is_some writer.old)) }
-    ensures faults { IfErr result (λ f. (f ≡ Fault.OutOfMemory) ⊎ (f ≡ Fault.CaptureFault)) }
+/// The fault where a capture isn't told up to its end, or up to its first fault.
+fn fault_of(error: DissectError) -> Fault
+    ensures { result ≡ fault_of_trace error }
 {
-    let Some(writer) = writer else {
-        return Ok(());
-    };
-    let bytes = plain_bytes(alloc, links, capture)?;
-    write_whole(writer, &bytes)
-}
-
-/// The bytes of a capture in plain words.
-fn plain_bytes(alloc: Global, links: &[Link], capture: &[u8]) -> Result<Vec<u8>, Fault>
-    ensures plain { IfOk result (λ v. (ending : Option CaptureError) × IsPlainCapture links.now capture.now ending v.items) }
-    ensures faults { IfErr result (λ f. (f ≡ Fault.OutOfMemory) ⊎ (f ≡ Fault.CaptureFault)) }
-{
-    match plain_capture(alloc, links, capture) {
-        Ok(made) => Ok(made.bytes),
-        Err(AppendError::OutOfMemory) => Err(Fault::OutOfMemory),
-        Err(_) => Err(Fault::CaptureFault),
+    match error {
+        DissectError::TooLong(offset) => Fault::BadCapture(CaptureError {
+            fault: CaptureFault::CutPacket,
+            offset,
+        }),
+        DissectError::Input => Fault::Input,
+        DissectError::NoRecord | DissectError::Plain => Fault::CaptureFault,
+        DissectError::Output => Fault::Output,
+        DissectError::OutOfMemory => Fault::OutOfMemory,
     }
 }

@@ -4,6 +4,7 @@ ghost use Rattle.std.specs.Prelude.{◌≡◌, ◌⊎◌, ◌++◌, ℕ, IfOk, I
 ghost use Rattle.fw_world.specs.Runs.{events_of};
 ghost use Rattle.fw_world.specs.Setup.{IsSetup};
 ghost use Rattle.fw_faults.specs.Reading.{ReadsUntil};
+ghost use Rattle.fw_cli.specs.Private.{fault_of_rehearsal};
 ghost use Rattle.fw_cli.specs.Rehearsing.{ReadsScript, TellsOfWorkers, TracesWorkers};
 ghost use Rattle.fw_cli.specs.Replaying.{MayWantFor, ReadsOne};
 ghost use Rattle.fw_script.specs.Script.{IsBadLine};
@@ -12,6 +13,7 @@ use fw_accounts::{Report, recorded_events};
 use fw_faults::{Fault, Reads, read_input};
 use fw_report::{append_board, append_report, append_trace_of};
 use fw_script::{Script, read_script};
+use fw_workers::RehearseError;
 use fw_world::{Event, Setup, World};
 use std::alloc::{AllocError, Global};
 use std::io::Read;
@@ -36,6 +38,21 @@ pub(crate) fn script_from<R: Read>(alloc: Global, reader: &mut R) -> Result<Scri
     let mut reads = Reads::none();
     let input = read_input(alloc, reader, &mut reads)?;
     read_script(alloc, &input)
+}
+
+/// The fault that says why workers have no report.
+pub(crate) fn fault_of(error: RehearseError) -> Fault
+    ensures { result ≡ fault_of_rehearsal error }
+{
+    match error {
+        RehearseError::Mismatch => Fault::Mismatch,
+        RehearseError::ThreadRefused => Fault::ThreadRefused,
+        RehearseError::Event(_) => Fault::Event,
+        RehearseError::OutOfMemory => Fault::OutOfMemory,
+        RehearseError::Socket => Fault::Socket,
+        RehearseError::GateShut => Fault::GateShut,
+        RehearseError::BadSetup => Fault::BadSetup,
+    }
 }
 
 /// What is written of workers who are accounted for: the trace of their run, if it is asked for, then the report of the world that

@@ -1,4 +1,5 @@
 pub mod Listings
+mod Sublists
 mod Taken
 mod Makings
 pub mod Tellings

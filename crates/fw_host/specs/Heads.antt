@@ -9,7 +9,7 @@ use Rattle.fw_rollout.specs.declared.daemon.Counts.{Counts}
 use Rattle.fw_rollout.specs.declared.ended.Ended.{Ended}
 use Rattle.fw_rollout.specs.Leading.{state_after}
 use Rattle.fw_faults.specs.declared.fault.Fault.{Fault}
-use Rattle.fw_faults.specs.declared.fault.Fault.TheVariants.{BadList, BadSetup, BookExists, BookFault, BadBook, BadKeys, BadRecord, CancelRefused, CaptureFault, CounterExists, CounterFault, CounterLocked, CounterSpent, ForeignCapture, ForeignHead, Full, ImageFault, KeysFault, KeysReadable, ListFault, Locked, NoBook, NoCounter, NoKey, OpenRefused, Output, OutOfMemory, Socket}
+use Rattle.fw_faults.specs.declared.fault.Fault.TheVariants.{BadList, BadSetup, BookExists, BookFault, BadBook, BadKeys, BadRecord, CancelRefused, CaptureFault, CounterExists, CounterFault, CounterLocked, CounterSpent, ForeignCapture, ForeignHead, Full, ImageFault, KeysFault, KeysReadable, ListFault, Locked, NoBook, NoCounter, NoKey, OpenRefused, Output, OutOfMemory, Socket, TooManyFailed}
 use Rattle.fw_report.specs.Failure.{why_words}
 use Rattle.fw_report.specs.Report.{state_word}
 
@@ -106,6 +106,7 @@ abbrev pub IsOfHead : Fault → Type 0
 IsOfHead Full = Unit {0}
 IsOfHead Output = Unit {0}
 IsOfHead CounterSpent = Unit {0}
+IsOfHead (TooManyFailed failed) = Unit {0}
 IsOfHead fault = IsOfHeadSetup fault
 
 -- those that come before anything is written, whatever else may come then

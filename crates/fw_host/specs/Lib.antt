@@ -2,6 +2,7 @@
 pub mod Telling
 pub mod Meters
 pub mod Lists
+pub mod Waves
 pub mod Heads
 pub mod Openings
 pub mod Clocks
@@ -10,3 +11,5 @@ pub mod Captures
 pub mod BegunCapture
 pub mod Closings
 pub mod Sealings
+-- For private clauses alone: no public clause cites it.
+pub mod Private

@@ -1,4 +1,4 @@
--- Public vocabulary: lists of meters, as comma-separated values (RFC 4180) without a header line.
+-- Public vocabulary: lists of meters with their waves, as comma-separated values (RFC 4180) without a header line.
 use Rattle.std.specs.Prelude.{◌≡◌, ◌≢◌, ◌⊎◌, ℕ, ◌<◌, ◌^◌, List, [], ◌∷◌, ◌++◌}
 use Rattle.std.specs.Str.Parse.{IsNumeral, digits_value, without_leading_plus}
 use Rattle.std.specs.declared.net.ip_addr.IpAddr.{IpAddr}
@@ -10,14 +10,15 @@ use Rattle.std.specs.Net.Socket.{socket_ip, socket_port}
 use Rattle.csv.specs.Reading.{AreRecords, default_config, strip_bom}
 use Rattle.csv.specs.Records.{AllText}
 use Rattle.csv.specs.declared.parser.State.TheVariants as state
-use Rattle.fw_rollout.specs.declared.link.Listed.{Listed}
 use Rattle.fw_rollout.specs.Daemon.{IsList}
+use Rattle.fw_host.specs.declared.wave_list.Planned.{Planned}
+use Rattle.fw_host.specs.Waves.{listed_in}
 
--- the decimal number of a meter, of 32 bits, behind a plus or not
-pub record SpellsNumber (text : List ℕ) (number : ℕ) : Type 0 where
+-- a decimal number of so many bits, behind a plus or not
+pub record SpellsNumber (bits : ℕ) (text : List ℕ) (number : ℕ) : Type 0 where
   pub numeral : IsNumeral 10 (without_leading_plus text)
   pub value : number ≡ digits_value 10 (without_leading_plus text)
-  pub fits : number < 2 ^ 32
+  pub fits : number < 2 ^ bits
 
 -- a text that spells no address, as the name of a host doesn't
 abbrev pub IsNoAddress : List ℕ → Type 0
@@ -39,36 +40,48 @@ pub record CanBeAsked (own address : SocketAddr) : Type 0 where
   pub family : is_ipv4 (socket_ip address) ≡ is_ipv4 (socket_ip own)
   pub host : IsHost (socket_ip address)
 
--- The fields of a line, in UTF-8: the number of a meter, and the text of its address, at which a head end at its own address can ask it.
-pub record SpellsListed (own : SocketAddr) (fields : List (List ℕ)) (at : Listed) : Type 0 where
+-- the fields behind an address: none in the first wave, or one with the number of the wave, of 8 bits
+abbrev pub SpellsWave : List (List ℕ) → ℕ → Type 0
+SpellsWave [] wave = wave ≡ 0
+SpellsWave (field ∷ []) wave = SpellsNumber 8 field wave
+SpellsWave (field ∷ other ∷ fields) wave = ⊥
+
+-- The fields of a line, in UTF-8: the number of a meter, of 32 bits, the text of its address, at which a head end at its own address can ask
+-- it, and its wave, which may be left out if it is the first one.
+pub record SpellsPlanned (own : SocketAddr) (fields : List (List ℕ)) (planned : Planned) : Type 0 where
   pub number : List ℕ
   pub address : List ℕ
-  pub two : fields ≡ number ∷ address ∷ []
+  pub rest : List (List ℕ)
+  pub are : fields ≡ number ∷ address ∷ rest
   pub text : AllText fields
-  pub is_number : SpellsNumber number at.meter
-  pub is_address : IsAddressOf address at.address
-  pub is_asked : CanBeAsked own at.address
+  pub is_number : SpellsNumber 32 number planned.at.meter
+  pub is_address : IsAddressOf address planned.at.address
+  pub is_asked : CanBeAsked own planned.at.address
+  pub is_wave : SpellsWave rest planned.wave
 
--- two fields, of which the second spells no address
+-- two fields, of which the second spells no address, and perhaps a wave behind them
 pub record NamesHost (fields : List (List ℕ)) : Type 0 where
   pub number : List ℕ
   pub address : List ℕ
-  pub two : fields ≡ number ∷ address ∷ []
+  pub rest : List (List ℕ)
+  pub wave : ℕ
+  pub are : fields ≡ number ∷ address ∷ rest
   pub named : IsNoAddress address
+  pub is_wave : SpellsWave rest wave
 
--- each record of the text has a meter and its address
-abbrev pub SpellsAll : SocketAddr → List (List (List ℕ)) → List Listed → Type 0
+-- each record of the text has a meter, its address, and its wave
+abbrev pub SpellsAll : SocketAddr → List (List (List ℕ)) → List Planned → Type 0
 SpellsAll own [] [] = Unit {0}
-SpellsAll own [] (at ∷ list) = ⊥
+SpellsAll own [] (planned ∷ list) = ⊥
 SpellsAll own (fields ∷ records) [] = ⊥
-SpellsAll own (fields ∷ records) (at ∷ list) = SpellsListed own fields at × SpellsAll own records list
+SpellsAll own (fields ∷ records) (planned ∷ list) = SpellsPlanned own fields planned × SpellsAll own records list
 
 -- the text is a list of these meters for a head end at its own address, each number and each address once
-pub record SpellsList (own : SocketAddr) (text : List ℕ) (list : List Listed) : Type 0 where
+pub record SpellsList (own : SocketAddr) (text : List ℕ) (list : List Planned) : Type 0 where
   pub records : List (List (List ℕ))
   pub are : AreRecords default_config state.StartRecord (strip_bom text) records
   pub spells : SpellsAll own records list
-  pub once : IsList list
+  pub once : IsList (listed_in list)
 
 -- A record of the text is the first with which they are no list: it spells no meter that can be asked, or one whose number or address an
 -- earlier one has. Or it names a host, of which the system may have no address that can be asked, or one that an earlier record has.
@@ -77,7 +90,7 @@ pub record IsNoList (own : SocketAddr) (text : List ℕ) : Type 0 where
   pub bad : List (List ℕ)
   pub rest : List (List (List ℕ))
   pub are : AreRecords default_config state.StartRecord (strip_bom text) (before ++ bad ∷ rest)
-  pub list : List Listed
+  pub list : List Planned
   pub spells : SpellsAll own before list
-  pub once : IsList list
-  pub none : NamesHost bad ⊎ ((at : Listed) → SpellsListed own bad at → ¬ IsList (list ++ at ∷ []))
+  pub once : IsList (listed_in list)
+  pub none : NamesHost bad ⊎ ((planned : Planned) → SpellsPlanned own bad planned → ¬ IsList (listed_in (list ++ planned ∷ [])))

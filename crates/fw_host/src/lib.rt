@@ -28,6 +28,7 @@ mod recorder;
 mod sealed_port_calls;
 mod sealing;
 mod strangers;
+mod wave_list;
 
 pub use capture_file::open_capture;
 pub use capture_port::CapturePort;
@@ -48,3 +49,4 @@ pub use meter_list::read_list;
 pub use meter_store::{NewMeter, NewStore, found_meter};
 pub use sealing::{Sealing, SealingOptions, fault_of_key_file, head_links, meter_links};
 pub use strangers::Strangers;
+pub use wave_list::{Planned, WaveList};

@@ -1,5 +1,5 @@
-//! Lists of meters: comma-separated values (RFC 4180) without a header line. A line has the number of a meter and its address, as
-//! `127.0.0.1:4059`, `[::1]:4059` or `meter.example:4059`.
+//! Lists of meters: comma-separated values (RFC 4180) without a header line. A line has the number of a meter, its address, as
+//! `127.0.0.1:4059`, `[::1]:4059` or `meter.example:4059`, and perhaps its wave, 0 to 255. Without one it is of wave 0.
 
 ghost use Rattle.std.specs.Prelude.{
   ◌≡◌,
@@ -17,12 +17,13 @@ ghost use Rattle.std.specs.Prelude.{
   IsUtf8,
   MatchOption,
   Some,
+  length,
   option_map,
   true,
 };
 ghost use Rattle.csv.specs.Reading.{error_kind, stops_reader};
 ghost use Rattle.csv.specs.Records.{field_at, fields_of};
-ghost use Rattle.fw_rollout.specs.declared.link.Listed.{Listed};
+ghost use Rattle.fw_host.specs.declared.wave_list.Planned.{Planned};
 ghost use Rattle.fw_rollout.specs.Daemon.{IsList};
 ghost use Rattle.fw_host.specs.Lists.{
   CanBeAsked,
@@ -32,33 +33,36 @@ ghost use Rattle.fw_host.specs.Lists.{
   IsNoList,
   NamesHost,
   SpellsList,
-  SpellsListed,
   SpellsNumber,
+  SpellsPlanned,
 };
+ghost use Rattle.fw_host.specs.Private.{HasWave};
+ghost use Rattle.fw_host.specs.Waves.{listed_in};
 
+use crate::wave_list::{Planned, WaveList};
 use csv::{ByteRecord, Error, ReaderBuilder};
 use fw_faults::Fault;
 use fw_names::MeterId;
-use fw_rollout::{Listed, MeterList};
+use fw_rollout::Listed;
 use std::alloc::Global;
 use std::net::{IpAddr, Net, SocketAddr, ToSocketAddrs};
 
-/// The meters of a list, each number and each address once, for a head end at `own`. In place of an address may stand the name of a host: its
-/// first address that can be asked from there is taken, as the system has it now.
+/// The meters of a list with their waves, each number and each address once, for a head end at `own`. In place of an address may stand the name
+/// of a host: its first address that can be asked from there is taken, as the system has it now.
 ///
 /// An address can be asked if it is of the family of `own`, IPv4 or IPv6, is that of one host, and has a port.
 ///
 /// # Errors
 ///
-/// - `BadList`: this line has no meter's number and address, or a number or an address that an earlier line has, or an address that can't
-///   be asked; or the system has none for the name that can.
+/// - `BadList`: this line has no meter's number and address, or no wave as its third field, or more fields, or a number or an address that
+///   an earlier line has, or an address that can't be asked; or the system has none for the name that can.
 /// - `OutOfMemory`.
 pub fn read_list<N: Net>(
     net: &N,
     alloc: Global,
     text: &[u8],
     own: SocketAddr,
-) -> Result<MeterList, Fault>
+) -> Result<WaveList, Fault>
     ensures ok { IfOk result (λ list. SpellsList own text.now list) }
     ensures bad_list { (line : ℕ) → result ≡ Err (Fault.BadList line) → IsNoList own text.now }
     ensures faults { IfErr result (λ f. (f ≡ Fault.OutOfMemory) ⊎ ((line : ℕ) × (f ≡ Fault.BadList line))) }
@@ -68,7 +72,7 @@ pub fn read_list<N: Net>(
         .flexible(true)
         .from_reader(alloc, text);
     let mut record = ByteRecord::new(alloc);
-    let mut meters = MeterList::none(alloc);
+    let mut meters = WaveList::none(alloc);
     for _ in 0..u64::MAX {
         match reader.read_byte_record(&mut record) {
             Ok(true) => take(net, own, text, &mut meters, &record)?,
@@ -93,22 +97,23 @@ fn take<N: Net>(
     net: &N,
     own: SocketAddr,
     text: &[u8],
-    meters: &mut MeterList,
+    meters: &mut WaveList,
     fields: &ByteRecord,
 ) -> Result<(), Fault>
-    ensures once { OnOk result (IsList meters.new) }
-    ensures taken { OnOk result ((at : Listed) × SpellsListed own (fields_of fields.now) at × (meters.new ≡ meters.old ++ at ∷ [])) }
+    ensures once { OnOk result (IsList (listed_in meters.new)) }
+    ensures taken { OnOk result ((planned : Planned) × SpellsPlanned own (fields_of fields.now) planned
+        × (meters.new ≡ meters.old ++ planned ∷ [])) }
     ensures bad_list { (line : ℕ) → result ≡ Err (Fault.BadList line) → NamesHost (fields_of fields.now)
-        ⊎ ((at : Listed) → SpellsListed own (fields_of fields.now) at → ¬ IsList (meters.old ++ at ∷ [])) }
+        ⊎ ((planned : Planned) → SpellsPlanned own (fields_of fields.now) planned → ¬ IsList (listed_in (meters.old ++ planned ∷ []))) }
 
     // Memory is wanted for a meter alone.
-    ensures memory { result ≡ Err Fault.OutOfMemory → (at : Listed) × SpellsListed own (fields_of fields.now) at }
+    ensures memory { result ≡ Err Fault.OutOfMemory → (planned : Planned) × SpellsPlanned own (fields_of fields.now) planned }
     ensures faults { IfErr result (λ f. (f ≡ Fault.OutOfMemory) ⊎ ((line : ℕ) × (f ≡ Fault.BadList line))) }
 {
-    let Some(at) = listed(net, own, fields) else {
+    let Some(planned) = planned(net, own, fields) else {
         return Err(Fault::BadList(line_of(text, fields)));
     };
-    let is_new = meters.add(at)?;
+    let is_new = meters.add(planned)?;
     // For its clause alone: each number and each address stands once.
     let _meters = meters.meters();
     if is_new {
@@ -134,14 +139,15 @@ fn line_of(text: &[u8], fields: &ByteRecord) -> u64 {
     line
 }
 
-/// The meter of a record, if it has the two fields of one.
-fn listed<N: Net>(net: &N, own: SocketAddr, fields: &ByteRecord) -> Option<Listed>
-    ensures { MatchOption result (NamesHost (fields_of fields.now) ⊎ ((at : Listed) → ¬ SpellsListed own (fields_of fields.now) at))
-        (λ at. SpellsListed own (fields_of fields.now) at) }
+/// The meter of a record with its wave, if it has the fields of one.
+fn planned<N: Net>(net: &N, own: SocketAddr, fields: &ByteRecord) -> Option<Planned>
+    ensures { MatchOption result (NamesHost (fields_of fields.now)
+        ⊎ ((planned : Planned) → ¬ SpellsPlanned own (fields_of fields.now) planned))
+        (λ planned. SpellsPlanned own (fields_of fields.now) planned) }
 {
-    if fields.len() != 2 {
+    let Some(wave) = wave_of(fields) else {
         return None;
-    }
+    };
     let Some(number) = text_at(fields, 0) else {
         return None;
     };
@@ -154,12 +160,47 @@ fn listed<N: Net>(net: &N, own: SocketAddr, fields: &ByteRecord) -> Option<Liste
     let Some(address) = address_of(net, own, address) else {
         return None;
     };
-    Some(Listed { meter, address })
+    Some(Planned {
+        at: Listed { meter, address },
+        wave,
+    })
+}
+
+/// The wave of a record: that of its third field, or the first one if it has two fields.
+fn wave_of(fields: &ByteRecord) -> Option<u8>
+    ensures { MatchOption result ((wave : ℕ) → ¬ HasWave (fields_of fields.now) wave) (λ wave. HasWave (fields_of fields.now) wave) }
+{
+    match fields.len() {
+        2 => Some(0),
+        3 => third_wave(fields),
+        _ => None,
+    }
+}
+
+/// The wave of a record of three fields.
+fn third_wave(fields: &ByteRecord) -> Option<u8>
+    requires { length (fields_of fields.now) ≡ 3 }
+    ensures { MatchOption result ((wave : ℕ) → ¬ HasWave (fields_of fields.now) wave) (λ wave. HasWave (fields_of fields.now) wave) }
+{
+    let Some(text) = text_at(fields, 2) else {
+        return None;
+    };
+    wave_named(text)
+}
+
+/// The wave of this number.
+fn wave_named(text: &str) -> Option<u8>
+    ensures { MatchOption result ((wave : ℕ) → ¬ SpellsNumber 8 text.now wave) (λ wave. SpellsNumber 8 text.now wave) }
+{
+    match text.parse::<u8>() {
+        Ok(wave) => Some(wave),
+        Err(_) => None,
+    }
 }
 
 /// The meter of a number.
 fn meter_of(text: &str) -> Option<MeterId>
-    ensures { MatchOption result ((number : ℕ) → ¬ SpellsNumber text.now number) (λ meter. SpellsNumber text.now meter) }
+    ensures { MatchOption result ((number : ℕ) → ¬ SpellsNumber 32 text.now number) (λ meter. SpellsNumber 32 text.now meter) }
 {
     match text.parse::<u32>() {
         Ok(number) => MeterId::new(number),

@@ -11,6 +11,7 @@ use std::alloc::Global;
 use std::io::Write;
 use std::net::{Ipv4Addr, SocketAddr, UdpSocket};
 use std::rt::Clock;
+use std::str;
 use std::test::Fail;
 use test_tables::{Words, expect_at, present};
 
@@ -98,10 +99,19 @@ fn told(rt: &HostRuntime, alloc: Global, what: &str) -> Result<String, Fail> {
     };
     other.send_to(&hex::decode(alloc, GET)?, ends.port)?;
     let capture = capture(rt, alloc, &mut port, ends, what)?;
-    let text = dissect(alloc, &[], false, &capture)?.text;
+    let mut lines = Vec::new(alloc);
+    let plain: &mut Option<Vec<u8>> = &mut None;
+    dissect(
+        alloc,
+        &[],
+        false,
+        &mut capture.as_slice(),
+        &mut lines,
+        plain,
+    )?;
     let here = format!(in alloc; "{}", ends.port)?;
     let there = format!(in alloc; "{}", ends.other)?;
-    let text = text.as_str().replace(alloc, here.as_str(), "here")?;
+    let text = str::from_utf8(&lines)?.replace(alloc, here.as_str(), "here")?;
     let text = text.as_str().replace(alloc, there.as_str(), "there")?;
     let line = text.as_str().trim().replace(alloc, "\n", "; ")?;
     Ok(line)

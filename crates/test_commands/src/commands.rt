@@ -355,14 +355,19 @@ breaks 200 answer      | get => Input
 breaks 200 name 0      | abc => Input
 breaks 200 replay      | x/  => Input
 breaks 200 trace       | abc => Input
+breaks 200 trace       | note => start/Input
 endless 200 answer     |     => TooMuchInput
 endless 200 name 0     |     => TooMuchInput
 endless 200 replay     |     => TooMuchInput
-endless 200 trace      |     => TooMuchInput
+// a capture has an end at its first fault
+endless 200 trace      |     => BadCapture BadMagic 0
+endless 200 trace      | note => start/BadCapture ShortLink 72
 // bad fates are reported before anything is read
 endless 200 replay 1   |     => BadFates
 interrupted 200 answer | get => \
 000100010001002fc401c1000929010000000000000000ba7816bf8f01cfea414140de5dae2223b00361a396177a9cb410ff61f20015ad/1000044 reads
+// its file header is read byte by byte, then the record, and then its end
+interrupted 200 trace  | note => start/1000073 reads
 ";
 
 #[test]

@@ -6,7 +6,8 @@ use std::net::{Net, SocketAddr};
 use std::test::Fail;
 use test_tables::{Reads, each_line};
 
-/// Reads a list, in which a slash stands between lines, and `~` for a carriage return: its meters, each with its address, or the fault.
+/// Reads a list, in which a slash stands between lines, and `~` for a carriage return: its meters, each with its address, and
+/// with its wave if that isn't the first, or the fault.
 #[derive(Drop)]
 struct Lists<'a, N: Net> {
     net: &'a N,
@@ -24,9 +25,13 @@ impl<N: Net> Reads for Lists<'_, N> {
             Err(fault) => return Ok(fault.to_string(alloc)?),
         };
         let mut told = String::new(alloc);
-        for listed in list.meters() {
-            let meter = format!(in alloc; "{} {};", listed.meter.number(), listed.address)?;
-            told.push_str(meter.as_str())?;
+        let waves = list.waves(alloc)?;
+        for (listed, of) in list.meters().meters().iter().zip(waves.iter()) {
+            write!(told, "{} {}", listed.meter.number(), listed.address)?;
+            if of.wave > 0 {
+                write!(told, " wave {}", of.wave)?;
+            }
+            told.push_str(";")?;
         }
         Ok(told)
     }
@@ -44,6 +49,13 @@ fn each_number_and_each_address_stands_once(rt: HostRuntime) -> Result<(), Fail>
 const LISTS: &str = "
     1,127.0.0.1:4059                   => 1 127.0.0.1:4059;
     1,127.0.0.1:4059/20,10.0.0.2:4060  => 1 127.0.0.1:4059;20 10.0.0.2:4060;
+    // waves
+    1,127.0.0.1:4059,0                 => 1 127.0.0.1:4059;
+    2,127.0.0.1:4060,255/1,127.0.0.1:1 => 2 127.0.0.1:4060 wave 255;1 127.0.0.1:1;
+    1,127.0.0.1:4059,256               => BadList 1
+    1,127.0.0.1:4059,first             => BadList 1
+    1,127.0.0.1:4059,1,2               => BadList 1
+    // too few fields, and others
     1                                  => BadList 1
     1,127.0.0.1:4059,                  => BadList 1
     meter,127.0.0.1:4059               => BadList 1

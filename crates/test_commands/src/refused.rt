@@ -8,7 +8,8 @@ use fw_disk::{Because, Cause, Name};
 use fw_faults::Fault;
 use fw_host::{BookOptions, NewMeter, Opening, ProgressOutput};
 use fw_names::HeadId;
-use fw_rollout::Timing;
+use fw_plan::MaxFailed;
+use fw_rollout::{Plan, Timing};
 use std::alloc::Global;
 use std::fs::File;
 use std::net::{Net, SocketAddr};
@@ -138,6 +139,8 @@ fn head_of<'paths, R: Files<File = File> + Clock + Net + Wait + Eprint>(
             resend: 1_000,
             flight: 1,
         },
+        plan: Plan::FREE,
+        max_failed: MaxFailed::Rows(0),
         stays: false,
         capture: None,
         captures_strangers: false,

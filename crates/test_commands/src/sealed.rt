@@ -2,13 +2,14 @@
 //! The sealings are those of another implementation.
 
 use fw_capture::{Captured, Content, append_packet, file_header};
-use fw_dissect::{dissect, plain_capture};
+use fw_dissect::dissect;
 use fw_keys::read_head_keys;
 use fw_names::HeadId;
 use fw_seal::Link;
 use fw_unseal::both_ends;
 use std::alloc::Global;
 use std::net::{Ipv4Addr, SocketAddr};
+use std::str;
 use std::test::Fail;
 use test_tables::{expect_at, present};
 
@@ -52,20 +53,23 @@ fn capture_of(alloc: Global, datagram: &str) -> Result<Vec<u8>, Fail> {
     Ok(capture)
 }
 
-/// What a capture tells of its one datagram to who has these links.
-fn words(alloc: Global, links: &[Link], capture: &[u8]) -> Result<String, Fail> {
-    let text = dissect(alloc, links, false, capture)?.text;
-    let words = text.as_str().replace(alloc, LINE, "")?;
-    Ok(words.as_str().trim().to_string(alloc)?)
+/// What a capture tells of its one datagram to who has these links, and what it is in plain words.
+fn dissected(alloc: Global, links: &[Link], mut capture: &[u8]) -> Result<(String, Vec<u8>), Fail> {
+    let mut lines = Vec::new(alloc);
+    let mut plain = Some(Vec::new(alloc));
+    dissect(alloc, links, false, &mut capture, &mut lines, &mut plain)?;
+    let words = str::from_utf8(&lines)?.replace(alloc, LINE, "")?;
+    let plain = present(plain, "a capture in plain words is asked for")?;
+    Ok((words.as_str().trim().to_string(alloc)?, plain))
 }
 
 /// What a datagram tells to who has these links, what the capture in plain words tells, and what it tells to who has none.
 fn told(alloc: Global, links: &[Link], datagram: &str) -> Result<String, Fail> {
     let capture = capture_of(alloc, datagram)?;
-    let opened = words(alloc, links, &capture)?;
-    let plain = words(alloc, &[], &plain_capture(alloc, links, &capture)?.bytes)?;
-    let without = words(alloc, &[], &capture)?;
-    Ok(format!(in alloc; "{opened} | {plain} | {without}")?)
+    let (opened, plain) = dissected(alloc, links, &capture)?;
+    let (of_plain, _) = dissected(alloc, &[], &plain)?;
+    let (without, _) = dissected(alloc, &[], &capture)?;
+    Ok(format!(in alloc; "{opened} | {of_plain} | {without}")?)
 }
 
 #[test]

@@ -10,8 +10,8 @@ use fw_blocks::Width;
 use fw_cli::HeadOptions;
 use fw_host::{BookOptions, Opening};
 use fw_names::HeadId;
-use fw_plan::SerialRange;
-use fw_rollout::Timing;
+use fw_plan::{Deadline, MaxFailed, SerialRange, Window};
+use fw_rollout::{Plan, Timing};
 use std::alloc::{AllocError, Global};
 
 /// The microseconds of a millisecond.
@@ -28,6 +28,11 @@ stand for an address, as in `3,meter.example:4061`: it is looked up once, when L
 address that can be asked is taken. An address can be asked if it is of the family of --listen, IPv4 or
 IPv6, is one host's, and its port isn't 0. A datagram from elsewhere is dropped, and one from an address of
 the list is taken for that meter's.
+
+A third field is the meter's wave, 0 to 255, as in `3,127.0.0.1:4061,1`; without it that is 0. No row of a
+wave is asked before all rows of the earlier waves have ended, and --max-failed of these failed at most.
+Else the head end ends as TooManyFailed, with the later rows as they were, and goes on there when it is run
+again with a larger --max-failed. A meter's row is its live one, or that of the campaign opened last.
 
 The book of the head end is in FILE of --book, and stays there for the next run. It is made with --new,
 and only where no such file is there: as FILE.new, which is named FILE once it is whole. So is a new FILE
@@ -68,6 +73,10 @@ A row is asked when nothing of it is outstanding, or after four times its last r
 --resend at first and at least; a quarter longer after each time in which nothing at all came from
 its meter, up to a minute. No more than --flight datagrams are out at once, or those of one row.
 
+With --activate-from no image is activated before that time: a row whose image is verified waits for it.
+With --give-up-after a row is given up whose meter was asked, and from which nothing came for so many hours
+since; if the head end is ended and run again, these hours begin anew.
+
 With --capture CAPTURE all that is received and sent is appended to CAPTURE, as `meter --help` says it. A
 stranger's datagram is one from an address that is not in LIST.
 
@@ -82,16 +91,17 @@ the first:
   row HEAD SERIAL METER failed: PHASE ANSWER
                                          the row was given up, and the disk has that: the phase that it
                                          was in, and what its meter answered, as `start code 250
-                                         other-reason` or `poll status 4 verification-failed`
+                                         other-reason` or `poll status 4 verification-failed`, or
+                                         `silent`
   over done D failed F                   no row is live; in this run D rows were done, and F failed
 
 Of each campaign that has live rows from an earlier run standard error says at the start
-`going on with campaign HEAD SERIAL: L live, D done, F failed`. Then it shows how many rows are live, and
-how many of this run are done and failed; how many datagrams a second went and came (datagrams/s); and how
-often in this run a row was asked again since no answer came (resends), a datagram came from elsewhere
-(strangers), and the socket failed (faults); with --keys also how many datagrams weren't let through
-(unopened), where there were any. A terminal shows it in one line, anew each second. Elsewhere it is a line
-each --every SECONDS in which a datagram went or came.
+`going on with campaign HEAD SERIAL: L live, D done, F failed`. Then it shows how many rows of the wave are
+live, and how many of this run are done and failed; how many datagrams a second went and came
+(datagrams/s); and how often in this run a row was asked again since no answer came (resends), a datagram
+came from elsewhere (strangers), and the socket failed (faults); with --keys also how many datagrams weren't
+let through (unopened), where there were any. A terminal shows it in one line, anew each second. Elsewhere
+it is a line each --every SECONDS in which a datagram went or came.
 
 Example, in two terminals, an image for the meter at port 4059:
 
@@ -111,9 +121,9 @@ Exit status:
      `--book FILE: FILE.new: it is another program's file`
        ListFault       LIST can't be opened or read: it isn't there, it is a folder, or this user has no
                        right to it. Or it has more than 64 MiB, without a cause
-       BadList L       line L of LIST, counted from 1, has no meter's number and address, or a number
-                       or an address that an earlier line has, or an address that can't be asked, or a
-                       name that has none which can
+       BadList L       line L of LIST, counted from 1, has no meter's number and address, or a third field
+                       that is no wave, or more fields, or a number or an address that an earlier line
+                       has, or an address that can't be asked, or a name that has none which can
        ImageFault      the file of --image can't be opened or read, for the same causes
        KeysFault       KEYS can't be opened or read: it isn't there, it is a folder or a link or has a
                        second name, or this user has no right to it
@@ -151,6 +161,7 @@ Exit status:
        MeterBusy       --open: a meter of LIST is live in another campaign
        NoSuchCampaign  --cancel: the book has no campaign of a serial number that is given
        NotLive         --cancel: none of its rows is live
+       TooManyFailed N N rows of the waves before the next one failed, more than --max-failed allows
        CaptureFault    CAPTURE can't be made, opened or written; `meter --help` has the causes
        ForeignCapture  CAPTURE is there, and isn't a capture that a meter or a head end began, or a
                        packet before its end is damaged
@@ -188,7 +199,7 @@ const MANUAL: &Manual = &Manual {
             name: "meters",
             takes: Takes::Text("LIST"),
             presence: Presence::Required,
-            help: "The file that has the meters, a line NUMBER,ADDR:PORT for each",
+            help: "The file that has the meters, a line NUMBER,ADDR:PORT or NUMBER,ADDR:PORT,WAVE for each",
         },
         CommandOption {
             name: "listen",
@@ -250,6 +261,24 @@ const MANUAL: &Manual = &Manual {
             help: "The file whose bytes are the image",
         },
         CommandOption {
+            name: "max-failed",
+            takes: Takes::Text("N|N%"),
+            presence: Presence::Default("0"),
+            help: "How many rows of the earlier waves may fail, so that the next one begins: 0 to 4294967295, or 0% to 100% of them",
+        },
+        CommandOption {
+            name: "activate-from",
+            takes: Takes::Number("TIME"),
+            presence: Presence::Optional,
+            help: "Activates no image before this time, in seconds since 1970, as `date +%s` prints them",
+        },
+        CommandOption {
+            name: "give-up-after",
+            takes: Takes::Within("HOURS", 1, 87_600),
+            presence: Presence::Optional,
+            help: "Gives up the rows of meters that are silent for so many hours, 1 to 87600; without this option none",
+        },
+        CommandOption {
             name: "cancel",
             takes: Takes::Text("SERIALS"),
             presence: Presence::Optional,
@@ -296,6 +325,8 @@ pub(super) fn invoked<'a>(
         opening: opening_of(given),
         width,
         timing,
+        plan: plan_of(given),
+        max_failed: max_failed_of(given)?,
         stays: given.get_flag("stay"),
         capture: given.get_str("capture"),
         captures_strangers: given.get_flag("capture-strangers"),
@@ -340,6 +371,47 @@ fn timing_of<'a>(given: &ArgMatches<'a>) -> Option<Timing> {
         resend: u64::from(resend).saturating_mul(MILLISECOND),
         flight: u64::from(flight),
     })
+}
+
+/// From when on images are activated, and how long a meter may be silent.
+fn plan_of<'a>(given: &ArgMatches<'a>) -> Plan {
+    let window = match given.get_one("activate-from") {
+        Some(time) => Window::From(time),
+        None => Window::Always,
+    };
+    let deadline = match given.get_one("give-up-after") {
+        Some(hours) => Deadline::Hours(hours),
+        None => Deadline::Never,
+    };
+    Plan { window, deadline }
+}
+
+/// How many rows of the waves before one may fail.
+fn max_failed_of<'a>(given: &ArgMatches<'a>) -> Result<MaxFailed, WrongValue<'a>> {
+    let Some(text) = given.get_str("max-failed") else {
+        return Ok(MaxFailed::Rows(0));
+    };
+    match threshold(text) {
+        Some(max_failed) => Ok(max_failed),
+        None => Err(WrongValue::NoThreshold {
+            option: "max-failed",
+            text,
+        }),
+    }
+}
+
+/// The threshold that a text is: a number of rows, or of rows in a hundred, as `3` or `5%`.
+fn threshold(text: &str) -> Option<MaxFailed> {
+    match text.strip_suffix('%') {
+        Some(percent) => match percent.parse::<u8>() {
+            Ok(percent) if percent <= 100 => Some(MaxFailed::Percent(percent)),
+            _ => None,
+        },
+        None => match text.parse::<u32>() {
+            Ok(rows) => Some(MaxFailed::Rows(rows)),
+            Err(_) => None,
+        },
+    }
 }
 
 /// What is opened, if anything is.

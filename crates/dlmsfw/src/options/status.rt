@@ -3,7 +3,8 @@
 use super::manual::{CommandOption, Manual, Presence, Takes};
 use super::{Invocation, manual};
 use clap::{ArgMatches, Command};
-use fw_cli::{StatusForm, StatusOptions};
+use fw_cli::StatusOptions;
+use fw_status::{Listing, StatusForm};
 use std::alloc::{AllocError, Global};
 
 /// The names of the forms.
@@ -13,7 +14,9 @@ const CSV: &str = "csv";
 
 const JSON: &str = "json";
 
-const FORMS: &[&str] = &[TABLE, CSV, JSON];
+const HTML: &str = "html";
+
+const FORMS: &[&str] = &[TABLE, CSV, JSON, HTML];
 
 /// What the long help begins with.
 const ABOUT: &str = "\
@@ -26,13 +29,19 @@ meter answered, as `head --help` says it. The last two have the times, in second
 at which the campaign was opened and at which the row ended. What the book doesn't know, as one of an
 older release, is empty there, or null.
 
+With --campaigns it gets the campaigns in place of the rows: the release, the size and the SHA-256 of the
+image of each, when it was opened, and how many of its rows are in which state. `--report html` makes one
+page that needs nothing from outside, with a bar for each campaign, and without --campaigns with the rows
+by state.
+
 FILE may have whole records that are not in the book, behind a shut gate: of a commit that isn't done or
 was cut, or behind a byte that turned on the disk. Standard error says so then:
 `N records behind a shut gate were not taken`.
 
-Example:
+Examples:
 
-  ./dlmsfw status --book head.book --report csv";
+  ./dlmsfw status --book head.book --report csv
+  ./dlmsfw status --book head.book --report html > head.html";
 
 /// What ends the long help.
 const ENDINGS: &str = "\
@@ -67,6 +76,12 @@ const MANUAL: &Manual = &Manual {
             presence: Presence::Default(TABLE),
             help: "The form of the report",
         },
+        CommandOption {
+            name: "campaigns",
+            takes: Takes::Nothing,
+            presence: Presence::Optional,
+            help: "Lists the campaigns in place of their rows",
+        },
     ],
 };
 
@@ -80,6 +95,7 @@ pub(super) fn invoked<'a>(given: &ArgMatches<'a>) -> Option<Invocation<'a>> {
     Some(Invocation::Status(StatusOptions {
         book: given.get_str("book")?,
         report: form(given.get_str("report")?)?,
+        listing: listing(given.get_flag("campaigns")),
     }))
 }
 
@@ -89,6 +105,16 @@ fn form(name: &str) -> Option<StatusForm> {
         TABLE => Some(StatusForm::Table),
         CSV => Some(StatusForm::Csv),
         JSON => Some(StatusForm::Json),
+        HTML => Some(StatusForm::Html),
         _ => None,
+    }
+}
+
+/// What is listed.
+fn listing(campaigns: bool) -> Listing {
+    if campaigns {
+        Listing::Campaigns
+    } else {
+        Listing::Rows
     }
 }

@@ -23,7 +23,9 @@ be read is `? (N bytes), FAULT`: its leftmost fault, of the wrapper, of the APDU
 `APDU Truncated`. A note of dlmsfw has a line too: `start` where its process started, `turn` where a
 meter took a turn of a verification, or `strangers N`: so many datagrams came from strangers since the
 packet before, and aren't there. Other packets are passed over: fragments, and those that aren't UDP
-over IP. All input is read before anything is written.
+over IP. The capture may be of any length: one packet is in memory at a time, and its line is written
+before the next one is read. So `tcpdump -U -w - udp port 4059 | ./dlmsfw trace` tells what goes over the
+wire as it goes.
 
 With --times each line begins with the time of its packet, as `2026-11-30T08:22:12.000007Z`: RFC 3339, in
 UTC and with microseconds. `tshark -t ud` shows the same times.
@@ -56,13 +58,13 @@ Exit status:
                           many files are open. Or OUT can't be made or written: a file is there, there is
                           no such folder, or the disk is full. Or a packet is longer than 65535 bytes
        Input              a read of CAPTURE or of standard input failed, as where it is a folder
-       TooMuchInput       the capture has more than 64 MiB
-       BadCapture F N     its first fault is F, in the record at offset N, or in the file header at 0;
-                          what stands before it was told
+       BadCapture F N     its first fault is F, in the record at offset N, or in the file header at 0
        Output             standard output can't be written, as on a full disk
-       OutOfMemory        the system gives no more memory; nothing was written
+       OutOfMemory        the system gives no more memory
+     Except at Output, what stands before it in the capture was told.
      F is ShortHeader, Pcapng, BadMagic, BadVersion, UnknownLink, ShortRecord, BadFraction, CutPacket,
-     ShortLink, BadIpVersion, ShortIp, BadIpHeader, BadIpLength or BadUdpLength.
+     ShortLink, BadIpVersion, ShortIp, BadIpHeader, BadIpLength or BadUdpLength. CutPacket is a packet that
+     the capture ends in, or that says that it has more than 64 MiB.
   2  a wrong command line: standard error says what is wrong";
 
 /// The command and its options.

@@ -7,6 +7,7 @@ use Rattle.std.proofs.lemmas.Result.{err_from_is_err_and}
 use Rattle.fw_cli.specs.Beginning.{AreChanges}
 use Rattle.fw_cli.specs.Heads.{IsAskedFor, IsOfJudging}
 use Rattle.fw_host.specs.Heads.{IsOfHeadSetup}
+use Rattle.fw_host.specs.Waves.{listed_in}
 use Rattle.fw_cli.proofs.Begun.{changes_in}
 use Rattle.fw_cli.proofs.Captured.{capture_in_setup, capture_is_asked}
 use Rattle.fw_cli.proofs.HeadLeading.{book_in_setup, book_is_asked, judging_in_setup, judging_is_asked, passed_because}
@@ -83,5 +84,5 @@ returns-clause-links g c = c.in_ok-sealing.ensures.links ∙ c.in_ok-links.ensur
 pub returns-clause-changes : goal.returns-clause-changes
 returns-clause-changes g c =
     changes_in c.view.result.book.now (book_of c.in_ok-kept.kept) _ _ _ _ (c.view.ensures.book ∙ ap (λ (h : Head). h.book) c.head.ensures)
-    (subst (λ (l : List SerialRange). AreChanges c.view.result.book.now l c.args.asked.now.opened c.args.asked.now.list c.in_ok-changes.changes) c.deref.ensures.value
+    (subst (λ (l : List SerialRange). AreChanges c.view.result.book.now l c.args.asked.now.opened (listed_in c.args.asked.now.list) c.in_ok-changes.changes) c.deref.ensures.value
     c.in_ok-changes.ensures.changes)

@@ -1,12 +1,17 @@
-use Rattle.std.proofs.Common.{◌≡◌, ◌∙◌, ℕ, ap, subst}
+use Rattle.std.proofs.Common.{◌≡◌, ◌∙◌, ℕ, List, ap, refl, subst, sym}
 use Rattle.std.proofs.lemmas.Result.{err_from_is_err_and}
+use Rattle.fw_kept.specs.Head.{book_of}
+use Rattle.fw_plan.specs.Openings.{unlisted}
 use Rattle.fw_rollout.specs.Counting.{counted_of}
 use Rattle.fw_rollout.specs.declared.daemon.Counts.{Counts}
+use Rattle.fw_rollout.specs.declared.link.Listed.{Listed}
 use Rattle.fw_cli.specs.Beginning.{HasLedTo}
 use Rattle.fw_cli.specs.Heads.{IsAskedFor}
-use Rattle.fw_host.specs.Heads.{IsOfHead}
+use Rattle.fw_host.specs.Heads.{ComesBeforeLines, IsOfHead}
+use Rattle.fw_host.specs.Openings.{listed_meters}
+use Rattle.fw_host.specs.Waves.{listed_in, wave_meters}
 use Rattle.fw_cli.proofs.Begun.{cancels_asked, led_out}
-use Rattle.fw_cli.proofs.HeadLeading.{beginning, line_lost, passed_because}
+use Rattle.fw_cli.proofs.HeadLeading.{beginning, line_lost, passed_because, stopped}
 use Rattle.fw_cli.proofs.head.run_head.Goals as goal
 
 pub returns-in_err-tell_listening-clause-silent : goal.returns-in_err-tell_listening-clause-silent
@@ -53,5 +58,26 @@ returns-in-Ok-clause-led g c =
     let set = c.in_ok-port.ensures in
     let failed : c.counts.result.failed ≡ (counted_of c.lead.new.daemon).failed = ap (λ (counts : Counts). counts.failed) c.counts.ensures.counts in
     led_out c.args.options.now _ _ _ _ c.in_ok-port.field-0.kept _ _ _ c.lead.new.daemon _ _ set.list.1 set.opening c.take.ensures.value set.number set.width set.changes
-    c.in_ok-begin.ensures.begins c.in_ok-daemon.ensures.made c.in-Ok.ensures.ran_out (c.deref.ensures.value ∙ c.in_ok-unlisted.ensures.rows)
+    c.in_ok-begin.ensures.begins c.in_ok-daemon.ensures.made (c.in-Ok.ensures.asks ∙ ap listed_in c.in_ok-waves.ensures.waves.list_is) c.in-Ok.ensures.ran_out (c.deref.ensures.value ∙ c.in_ok-unlisted.ensures.rows
+    ∙ ap (λ (list : List Listed). unlisted (listed_meters list) (book_of c.begin.new.kept)) c.meters-3.ensures.meters)
     (subst (λ (n : ℕ). HasLedTo c.deref.result.now n c.of.result) failed c.of.ensures)
+
+pub lead-requires-clause-waves : goal.lead-requires-clause-waves
+lead-requires-clause-waves g c =
+    let waves = c.in_ok-waves.ensures.waves in
+    record { list_is = refl; meters = waves.meters ∙ ap wave_meters (sym waves.list_is); max_is = waves.max_is }
+
+pub returns-clause-silent : goal.returns-clause-silent
+returns-clause-silent g c =
+    let is = stopped c.args.options.now c.in-Err.because.error c.in-Err.ensures.asked c.in-Err.ensures.keyed c.in-Err.ensures.faults in
+    λ before. absurd (is.later (subst ComesBeforeLines c.of_book.ensures.fault before))
+
+pub returns-clause-asked : goal.returns-clause-asked
+returns-clause-asked g c =
+    let is = stopped c.args.options.now c.in-Err.because.error c.in-Err.ensures.asked c.in-Err.ensures.keyed c.in-Err.ensures.faults in
+    subst (IsAskedFor c.args.options.now) (sym c.of_book.ensures.fault) is.asked
+
+pub returns-clause-faults : goal.returns-clause-faults
+returns-clause-faults g c =
+    let is = stopped c.args.options.now c.in-Err.because.error c.in-Err.ensures.asked c.in-Err.ensures.keyed c.in-Err.ensures.faults in
+    subst IsOfHead (sym c.of_book.ensures.fault) is.of_head

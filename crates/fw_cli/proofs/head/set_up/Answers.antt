@@ -1,7 +1,8 @@
-use Rattle.std.proofs.Common.{◌≡◌, List, Option, subst, sym}
+use Rattle.std.proofs.Common.{◌≡◌, ◌∙◌, List, Option, subst, sym}
 use Rattle.std.proofs.lemmas.Result.{err_from_is_err_and}
 use Rattle.fw_cli.specs.Heads.{IsAskedFor}
 use Rattle.fw_host.specs.Heads.{IsOfHeadSetup}
+use Rattle.fw_host.specs.Waves.{listed_in}
 use Rattle.fw_rollout.specs.declared.link.Listed.{Listed}
 use Rattle.fw_sealport.specs.declared.links.Links.{Links}
 use Rattle.fw_cli.specs.Sealing.{IsHeadSealing, links_of}
@@ -79,7 +80,7 @@ pub returns-clause-links : goal.returns-clause-links
 returns-clause-links g c =
     let sealing = c.args.options.now.sealing in
     let head = c.args.options.now.head in
-    let list = c.in_ok-asked.asked.list in
+    let list = listed_in c.in_ok-asked.asked.list in
     let links = links_of c.in_ok-keyed.keyed in
-    let listed = subst (λ (l : List Listed). IsHeadSealing sealing head l links) c.meters.ensures.meters c.in_ok-keyed.ensures.links in
+    let listed = subst (λ (l : List Listed). IsHeadSealing sealing head l links) (c.meters-2.ensures.meters ∙ c.meters.ensures.meters) c.in_ok-keyed.ensures.links in
     subst (λ (l : Option Links). IsHeadSealing sealing head list l) (sym c.in_ok-kept.ensures.links) listed
