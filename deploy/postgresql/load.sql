@@ -1,4 +1,4 @@
--- Puts the rows of a book into the table `results`. Its input is what `dlmsfw status --report csv` prints, of one book or of several:
+-- Puts the rows of a book into the table `results`. Its input is what `dlmsfw status --report csv` prints of that book:
 --
 --     dlmsfw status --book head.book --report csv | psql fleet -f load.sql
 --

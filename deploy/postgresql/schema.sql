@@ -22,18 +22,19 @@ create unique index one_meter_a_place on meters (place) where down_since is null
 create unique index one_meter_an_address on meters (address) where down_since is null;
 create index meters_of_a_shard on meters (shard) where down_since is null;
 
--- An image that was released. Its digest is the SHA-256 that a name has.
+-- The bytes of an image. Its digest is the SHA-256 that a name has.
 create table images (
     digest bytea primary key check (length(digest) = 32),
-    release bigint not null check (release between 0 and 4294967295),
     size bigint not null check (size between 1 and 16777216),
     file text not null
 );
 
--- An opening of a shard: `head --open SERIAL` with an image. Its campaigns have up to 256 meters each, and serial numbers from SERIAL on.
+-- An opening of a shard: `head --open SERIAL` with an image under a release, older bytes perhaps under a higher one. Its campaigns have up to
+-- 256 meters each, and serial numbers from SERIAL on.
 create table openings (
     shard bigint not null references shards,
     serial bigint not null check (serial between 1 and 4294967295),
+    release bigint not null check (release between 0 and 4294967295),
     digest bytea not null references images,
     made_at timestamptz not null default now(),
     primary key (shard, serial)
@@ -60,42 +61,46 @@ create view lists as
 
 -- Each row, with the opening that it is of.
 create view offers as
-    select r.shard, o.serial, r.campaign, r.meter, r.state, r.read_at, o.digest
+    select r.shard, o.serial, r.campaign, r.meter, r.state, r.ended_at, o.release, o.digest
     from results r
     cross join lateral (
-        select serial, digest from openings o
+        select serial, release, digest from openings o
         where o.shard = r.shard and o.serial <= r.campaign
         order by serial desc limit 1
     ) o;
 
 -- What each meter that is up runs by the books: the image of its last row that is done. A meter without one runs what it was delivered with.
+-- (a meter that changed its shard has rows of two books, and the row of a book of an older release may have no time)
 create view running as
-    select m.number as meter, m.place, m.shard, i.release, d.digest
+    select m.number as meter, m.place, m.shard, d.release, d.digest
     from meters m
     left join lateral (
-        select digest from offers f
+        select release, digest from offers f
         where f.meter = m.number and f.state = 'done'
-        order by f.read_at desc, f.campaign desc limit 1
+        order by f.ended_at desc nulls last, f.campaign desc limit 1
     ) d on true
-    left join images i on i.digest = d.digest
     where m.down_since is null;
 
 -- How far each opening is, for the meters that are up. `lacking` are those without a row, as one that was put up later.
 create view progress as
-    select o.shard, o.serial, i.release, count(*) as meters,
+    select o.shard, o.serial, o.release, count(*) as meters,
         count(*) filter (where f.state = 'done') as done,
         count(*) filter (where f.state = 'live') as live,
         count(*) filter (where f.state = 'failed') as failed,
         count(*) filter (where f.state = 'cancelled') as cancelled,
         count(*) filter (where f.state is null) as lacking
     from openings o
-    join images i on i.digest = o.digest
     join meters m on m.shard = o.shard and m.down_since is null
     left join offers f on f.shard = o.shard and f.serial = o.serial and f.meter = m.number
-    group by o.shard, o.serial, i.release;
+    group by o.shard, o.serial;
 
--- The newest opening of each shard, where some meter that is up hasn't what it offers.
+-- The newest opening of each shard, if some meter of the shard that is up runs another image by the books. One that got this image under
+-- another opening, or at another shard, doesn't lack it.
 create view behind as
-    select * from progress p
-    where done < meters
-        and serial = (select max(serial) from openings o where o.shard = p.shard);
+    select o.shard, o.serial, o.release, count(*) as meters,
+        count(*) filter (where (r.release, r.digest) is distinct from (o.release, o.digest)) as lacking
+    from openings o
+    join running r on r.shard = o.shard
+    where o.serial = (select max(serial) from openings n where n.shard = o.shard)
+    group by o.shard, o.serial
+    having count(*) filter (where (r.release, r.digest) is distinct from (o.release, o.digest)) > 0;
