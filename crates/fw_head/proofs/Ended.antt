@@ -1,5 +1,5 @@
 -- The live rows once the row of a meter is taken out.
-use Rattle.std.proofs.Common.{◌≡◌, ℕ, nat_eq, Bool, true, false, cond, [], ◌∷◌, get_or, slice_get, position, Option, Some, None, refl, sym, ap, subst, ◌∙◌}
+use Rattle.std.proofs.Common.{◌≡◌, ℕ, nat_eq, Bool, true, false, cond, [], ◌∷◌, get_or, slice_get, position, Option, Some, None, refl, sym, subst, ◌∙◌}
 use Rattle.std.specs.Cmp.{nat_eq_equiv}
 use Rattle.std.specs.List.{IsDistinct}
 use Rattle.std.specs.Map.{keys_of}

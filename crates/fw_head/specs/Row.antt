@@ -3,6 +3,7 @@ use Rattle.std.specs.Prelude.{◌≡◌, ℕ, ◌+◌, ◌<◌, ◌≤◌, nat_l
 use Rattle.std.specs.Global.{Vec}
 use Rattle.fw_names.specs.Name.{Name}
 use Rattle.fw_blocks.specs.Cuts.{Partition, IsWithinLimits, block_count, cut}
+use Rattle.fw_blocks.specs.Members.{first_missing}
 use Rattle.fw_wrapper.specs.Wrapper.{wrapped}
 use Rattle.fw_apdu.specs.Request.{request_bytes}
 use Rattle.fw_client.specs.Claim.{Claim}
@@ -15,12 +16,12 @@ use Rattle.fw_book.specs.declared.notes.Reason.{Reason}
 use Rattle.fw_head.specs.declared.giving_up.GivenUp.{GivenUp}
 use Rattle.fw_head.specs.declared.giving_up.WhyGivenUp.{WhyGivenUp}
 use Rattle.fw_head.specs.declared.stage.Stage.{Stage}
-use Rattle.fw_head.specs.declared.stage.Stage.TheVariants.{Size, Start, Blocks, Gaps, Confirm, Done, Failed}
+use Rattle.fw_head.specs.declared.stage.Stage.TheVariants.{Size, Enable, Start, Blocks, Check, Gaps, Verify, Poll, Info, Activate, Confirm, Done, Failed}
 use Rattle.fw_head.specs.declared.answers.Step.{Step}
 use Rattle.fw_head.specs.declared.answers.Step.TheVariants.{Stay, Took, Move, Return, Fail}
 use Rattle.fw_head.specs.declared.news.RowNews.{RowNews}
 use Rattle.fw_head.specs.declared.news.RowNews.TheVariants as news
-use Rattle.fw_head.specs.Phase.{phase_of, asks_first_in, Leads, TakesMemory, with_known}
+use Rattle.fw_head.specs.Phase.{phase_of, asks_first_in, count, Leads, TakesMemory, with_known}
 use Rattle.fw_head.specs.Reason.{answer_of, answer_for, reason_at}
 
 pub record Row : Type 0 where
@@ -61,6 +62,39 @@ new_row meter name size = record { name = name; size = size; stage = Size; clien
 -- a new row that asks first what its meter has
 abbrev pub reopened_row : ℕ → Name → ℕ → Row
 reopened_row meter name size = record (new_row meter name size) { asks_first = true }
+
+-- ---- how far it is
+
+-- into how many blocks the meter cuts the image, if that is known
+abbrev pub blocks_in : Stage → Option ℕ
+blocks_in Size = None
+blocks_in (Done claim) = None
+blocks_in (Failed why) = None
+blocks_in (Enable g) = Some (count g)
+blocks_in (Start g) = Some (count g)
+blocks_in (Blocks g known) = Some (count g)
+blocks_in (Check g) = Some (count g)
+blocks_in (Gaps g) = Some (count g)
+blocks_in (Verify g) = Some (count g)
+blocks_in (Poll g) = Some (count g)
+blocks_in (Info g) = Some (count g)
+blocks_in (Activate g) = Some (count g)
+blocks_in (Confirm g) = Some (count g)
+
+-- how many of them it is known to have, from the first one on: all that were asked for, once it took them
+abbrev pub known_in : Stage → ℕ
+known_in (Blocks g known) = first_missing known
+known_in (Check g) = count g
+known_in (Verify g) = count g
+known_in (Poll g) = count g
+known_in (Info g) = count g
+known_in (Activate g) = count g
+known_in (Confirm g) = count g
+known_in stage = 0
+
+-- so many of a row, and none if it hasn't asked yet what its meter has
+abbrev pub known_of : Row → ℕ
+known_of row = if row.asks_first then 0 else known_in row.stage
 
 -- ---- a tick
 

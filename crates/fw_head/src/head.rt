@@ -2,6 +2,7 @@
 
 ghost use Rattle.std.specs.Prelude.{◌≡◌, ◌≤◌, ◌↔◌, ℕ, true, length, All, None, is_some, MatchBool, MatchOption, IsTrue, IsSomeAnd, IfOk, IfErr, IsOk, OnOk, OnErr};
 ghost use Rattle.std.specs.Map.{values_of};
+ghost use Rattle.std.specs.Option.{option_copied};
 ghost use Rattle.fw_names.specs.Name.{Campaign, name_of};
 ghost use Rattle.fw_blocks.specs.Width.{IsWidth};
 ghost use Rattle.fw_book.specs.Contents.{IsBook};
@@ -292,6 +293,13 @@ impl HeadCore {
             Some(row) => row.activates(),
             None => false,
         }
+    }
+
+    /// The live row of a meter, if the meter has one.
+    pub fn row(&self, meter: MeterId) -> Option<&RowCore>
+        ensures { option_copied result ≡ row_of self.now.rows meter }
+    {
+        self.rows.get(meter)
     }
 
     /// Makes the datagrams that are sent to a meter now: none if it has no live row.

@@ -54,7 +54,7 @@ impl Model for RowCore {
 
 impl RowCore {
     ghost use Rattle.fw_head.specs.Row.{Row, bytes_of, new_row, reopened_row, ticked, sends, moved, returned, settled, with_block};
-    ghost use Rattle.fw_head.specs.Row.{went, asked_first, stepped, given_up};
+    ghost use Rattle.fw_head.specs.Row.{went, asked_first, stepped, given_up, blocks_in, known_of};
     ghost use Rattle.fw_head.specs.Row.{
       RowHears,
       IsPermitted,
@@ -121,6 +121,25 @@ impl RowCore {
         ensures { result ≡ phase_of self.now.stage }
     {
         self.stage.phase()
+    }
+
+    /// Into how many blocks the meter cuts the row's image, if that is known: it isn't before the meter told its block size, nor
+    /// once the row ended.
+    pub fn block_count(&self) -> Option<u32>
+        ensures { result ≡ blocks_in self.now.stage }
+    {
+        self.stage.block_count()
+    }
+
+    /// How many of these blocks the meter is known to have, from the first one on.
+    pub fn known_blocks(&self) -> u32
+        ensures { result ≡ known_of self.now }
+    {
+        if self.asks_first {
+            0
+        } else {
+            self.stage.known_blocks()
+        }
     }
 
     /// Whether a tick asks the meter to activate the image.

@@ -2,7 +2,7 @@
 
 ghost use Rattle.std.specs.Prelude.{◌≡◌};
 ghost use Rattle.fw_head.specs.Phase.{phase_of, activates, has_ended, with_known};
-ghost use Rattle.fw_head.specs.Row.{claim_in, reason_in, confirm_first, news_in, with_block};
+ghost use Rattle.fw_head.specs.Row.{blocks_in, claim_in, confirm_first, known_in, news_in, reason_in, with_block};
 
 use crate::news::RowNews;
 use fw_blocks::{BlockSet, Geometry};
@@ -54,6 +54,41 @@ impl Stage {
             Stage::Confirm(_) => Phase::Confirm,
             Stage::Done(_) => Phase::Done,
             Stage::Failed(_) => Phase::Failed,
+        }
+    }
+
+    /// Into how many blocks the meter cuts the image, if that is known.
+    pub(crate) fn block_count(&self) -> Option<u32>
+        ensures { result ≡ blocks_in self.now }
+    {
+        match self {
+            Stage::Size | Stage::Done(_) | Stage::Failed(_) => None,
+            Stage::Enable(geometry) => Some(geometry.count()),
+            Stage::Start(geometry) => Some(geometry.count()),
+            Stage::Blocks(geometry, _) => Some(geometry.count()),
+            Stage::Check(geometry) => Some(geometry.count()),
+            Stage::Gaps(geometry) => Some(geometry.count()),
+            Stage::Verify(geometry) => Some(geometry.count()),
+            Stage::Poll(geometry) => Some(geometry.count()),
+            Stage::Info(geometry) => Some(geometry.count()),
+            Stage::Activate(geometry) => Some(geometry.count()),
+            Stage::Confirm(geometry) => Some(geometry.count()),
+        }
+    }
+
+    /// How many of these blocks the meter is known to have, from the first one on.
+    pub(crate) fn known_blocks(&self) -> u32
+        ensures { result ≡ known_in self.now }
+    {
+        match self {
+            Stage::Blocks(_, known) => known.first_missing(),
+            Stage::Check(geometry) => geometry.count(),
+            Stage::Verify(geometry) => geometry.count(),
+            Stage::Poll(geometry) => geometry.count(),
+            Stage::Info(geometry) => geometry.count(),
+            Stage::Activate(geometry) => geometry.count(),
+            Stage::Confirm(geometry) => geometry.count(),
+            _ => 0,
         }
     }
 
