@@ -171,7 +171,10 @@ def receive(head, meter, image):
 
 # Lines of how far a head end is, and of what it goes on with.
 GOING_ON = re.compile(r"going on with campaign \d+ \d+: \d+ live, \d+ done, \d+ failed")
-PROGRESS = re.compile(r"(\d+) live, (\d+) done, (\d+) failed; (\d+) datagrams/s, (\d+) resends, (\d+) strangers, (\d+) faults(?:, \d+ unopened)?")
+PROGRESS = re.compile(r"(?P<known>\d{1,4}|\d{1,3}[kM])/(?P<needed>\d{1,4}|\d{1,3}[kM]) blocks(?: (?P<percent>\d+)%)?, "
+                      r"(?P<live>\d+) live, (?P<done>\d+) done, (?P<failed>\d+) failed, (?P<rate>\d{1,4}|\d{1,3}[kM])/s"
+                      r"(?:, (?P<again>\d+)% again)?(?:, ~(?P<left>\d+[smhd]))?"
+                      r"(?:, (?P<strangers>\d+) strangers)?(?:, (?P<faults>\d+) faults)?(?:, (?P<unopened>\d+) unopened)?")
 
 
 def without_notes(said):

@@ -3,6 +3,7 @@
 import hashlib
 import socket
 import struct
+import time
 
 from common import PATIENCE, SILENCE, Head, Members, Meter, bound, comes_in, listed, received, stays_silent, wants
 from ends import GET_NAME, PROGRESS, HeadEnd, transfer, with_invoke_byte
@@ -114,10 +115,34 @@ def progress_is_told(place):
         heads.append(HeadEnd(folder, *opening(folder), "--resend", "100", "--every", every))
     with heads[0].running() as silent, heads[1].running() as telling:
         line = telling.process.stderr.readline().rstrip("\n")
-        wants(PROGRESS.fullmatch(line) and line.startswith("1 live, 0 done, 0 failed; "), f"it tells {line}")
+        wants(PROGRESS.fullmatch(line) and line.startswith("0/0 blocks, 1 live, 0 done, 0 failed, "), f"it tells {line}")
         silent.process.kill()
         said = silent.process.communicate()[1]
         wants(said == "", f"with --every 0 it tells {said}")
+
+
+# To be seen: a head end that doesn't count blocks, or that tells no time for those that are left, or one that is far off.
+def blocks_and_the_time_left_are_told(place):
+    """While a meter takes 50 blocks a second at most, a head end tells how many it has. Its second line tells how long the others take."""
+    meter, size = bound(), 200
+    listed(place.folder, [meter.getsockname()])
+    with HeadEnd(place.folder, *opening(place.folder, image=bytes(size)), *PATIENT, "--width", "1", "--every", "1").running() as head:
+        at, end = listens_at(head), time.monotonic() + 2.6
+        for tail in ("000600000001", "00", "0000"):
+            replied(meter, at, tail)
+        while time.monotonic() < end:
+            replied(meter, at, "0000")
+            time.sleep(0.02)
+        head.process.kill()
+        lines = head.process.communicate()[1].splitlines()
+    found = [PROGRESS.fullmatch(line) for line in lines]
+    wants(len(found) == 2 and all(found) and all(len(line) <= 80 for line in lines), f"it tells {lines}")
+    known = [int(line["known"]) for line in found]
+    wants(0 < known[0] < known[1] < size, f"it tells {lines}")
+    wants(all((line["needed"], line["percent"]) == (f"{size}", f"{100 * count // size}") for line, count in zip(found, known)), f"it tells {lines}")
+    wants([bool(line["left"]) for line in found] == [False, True], f"it tells {lines}")
+    seconds, want = int(found[1]["left"].removesuffix("s")), (size - known[1]) / (known[1] - known[0])
+    wants(want / 2 - 1 < seconds < 2 * want + 1, f"it tells {lines}")
 
 
 # To be seen: a meter, or a fleet, that ignores --block-size, --capacity or --factory-file.
@@ -146,4 +171,4 @@ def a_new_meter_is_as_asked_for(place):
         asked(meter)
 
 
-STEPS = [the_width_is_kept, a_block_comes_whole, a_head_end_waits_and_stays, progress_is_told, a_new_meter_is_as_asked_for]
+STEPS = [the_width_is_kept, a_block_comes_whole, a_head_end_waits_and_stays, progress_is_told, blocks_and_the_time_left_are_told, a_new_meter_is_as_asked_for]

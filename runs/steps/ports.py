@@ -13,7 +13,7 @@ import time
 
 from common import HOST, PATIENCE, SILENCE, Head, Members, Meter, bound, comes_in, listed, name_of, received, stays_silent, wait_for, wants
 from cuts import recording
-from ends import GET_NAME, GET_STATUS, STATUS, Failed, HeadEnd, action, transfer
+from ends import GET_NAME, GET_STATUS, SET_ENABLED, STATUS, Failed, HeadEnd, action, transfer
 
 # The name of the image that a new meter of `meter` runs.
 RUNS_ABC = "000100010001002fc401c1000929010000000000000000" + hashlib.sha256(b"abc").hexdigest()
@@ -107,6 +107,40 @@ def a_head_end_asks_once(place):
         wants(got == (ASKS_ENABLE, at), f"the next datagram is {got}, and not {ASKS_ENABLE} from {at}")
         stays_silent(meter, other, stranger)
         wants(head.process.poll() is None, "the head end ended")
+
+
+def disagrees(request):
+    """The answer of a meter that has its one block by attribute 3, and lacks it by attribute 4, to a request in hexadecimal."""
+    apdu = request[16:]
+    service, invoke = apdu[:4], apdu[4:6]
+    if service == "c001":
+        answer = f"c401{invoke}00" + {"02": "0600000040", "03": "040180", "04": "0600000000"}[apdu[22:24]]
+    else:
+        answer = {"c101": f"c501{invoke}00", "c301": f"c701{invoke}0000"}[service]
+    return f"000100010001{len(answer) // 2:04x}{answer}"
+
+
+# To be seen: a head end that asks a meter as fast as it answers, though no block is new.
+def a_row_that_gets_nowhere_rests(place):
+    """A meter whose attributes 3 and 4 disagree is asked eight times at first, twice after a second, twice after two more, and so on. Each time
+    it is told what the row meets, in a line and by an event."""
+    meter, asked, end = bound(), 0, time.monotonic() + 1.5
+    listed(place.folder, [meter.getsockname()])
+    with HeadEnd(place.folder, *opening(place.folder), *PATIENT, "--events", place.folder / "events").running() as head:
+        while (left := end - time.monotonic()) > 0:
+            meter.settimeout(left)
+            with contextlib.suppress(TimeoutError):
+                request, at = meter.recvfrom(2048)
+                asked += 1
+                meter.sendto(bytes.fromhex(disagrees(request.hex())), at)
+        wants(head.process.poll() is None, "the head end ended")
+        head.process.kill()
+        said = head.process.communicate()[1].splitlines()
+    wants(8 <= asked <= 10, f"it is asked {asked} times")
+    met = "a block is missing by attribute 4, and none by attribute 3"
+    wants(f"row 7 1 1 no progress: {met}" in said, f"the head end says {said}")
+    events = (place.folder / "events").read_text()
+    wants(f'{{"campaign":1,"event":"no_progress","head":7,"met":"{met}","meter":1,"time":' in events, f"the events are {events}")
 
 
 def status_of_all(heads, stranger, meters):
@@ -391,22 +425,141 @@ def brought(head, meter, image, noise=None):
     answered(head, meter, action(4, "0f00"), 0)
 
 
-# To be seen: a port that waits in place of a turn; a fleet whose meters take no turns, or of which one does alone; a switch that isn't
-# told.
+# To be seen: a port that waits in place of a turn; a fleet whose meters take no turns, or of which one does alone; an image that isn't told
+# of once it is verified or switched to.
 def verifies_in_turns(place):
     """An image of 40 slices is verified if nothing comes, and by the second meter of a fleet among what strangers send."""
     image = bytes(range(256)) * 640
     digest = hashlib.sha256(image).hexdigest()
-    told, head = f"activated 7 1 0 {digest}\n", Head()
+    told, head = [f"{word} 7 1 0 {digest}\n" for word in ("verified", "activated")], Head()
     with Meter(place.folder / "meter.fw", "--head", head.address()).killed() as meter:
         brought(head, meter, image)
-        wait_for(lambda: meter.lines == [told], f"the meter doesn't print {told}")
+        wait_for(lambda: meter.lines == told, f"the meter doesn't print {told}")
     fleet = Members(place.folder, 2, "--head", head.address())
     with fleet.meter.killed():
         brought(head, fleet.at[1], image, noise=bound())
         names = [head.ask_until(meter, GET_NAME) for meter in fleet.at]
     wants(names[0] == RUNS_ABC and names[1].endswith(digest), f"the meters of the fleet run {names}")
-    wants(fleet.meter.lines[1:] == [f"meter 2 {told}"], f"the fleet prints {fleet.meter.lines}")
+    wants(fleet.meter.lines[1:] == [f"meter 2 {line}" for line in told], f"the fleet prints {fleet.meter.lines}")
+
+
+# ---- what a meter tells
+
+SET_DISABLED = SET_ENABLED[:-2] + "00"
+VERIFY, ACTIVATE = action(3, "0f00"), action(4, "0f00")
+
+
+def offer(identifier, size):
+    """The datagram that initiates a transfer under this identifier."""
+    return action(1, f"020209{len(identifier) // 2:02x}{identifier}06{size:08x}")
+
+
+def spelled(image, serial, release):
+    """The name of an image of a release in a campaign of head end 7."""
+    return f"02{7:08x}{serial:08x}{release:08x}{hashlib.sha256(image).hexdigest()}"
+
+
+def block(image, number):
+    """The datagram with the last block of an image, of less than 128 bytes."""
+    part = image[1024 * number:1024 * number + 1024]
+    return action(2, f"020206{number:08x}09{len(part):02x}{part.hex()}")
+
+
+IMAGE, OTHER = b"an image", b"other im"
+DIGESTS = [hashlib.sha256(image).hexdigest() for image in (IMAGE, OTHER)]
+OFFER = offer(spelled(IMAGE, 1, 5), 8)
+# What a meter is asked, the code of its answer, and what it tells of that.
+TELLS = [
+    (SET_DISABLED, 0, []),
+    (OFFER, 3, ["refused 7 1 5 8: transfer is disabled"]),
+    (VERIFY, 3, []),
+    (SET_ENABLED, 0, []),
+    (offer("6162", 8), 250, ["refused - - - 8: no name"]),
+    (offer("01" + "00" * 8 + DIGESTS[0], 8), 250, ["refused 0 0 0 8: the name of a factory image"]),
+    (offer(spelled(IMAGE, 1, 5), 0xffffffff), 250, ["refused 7 1 5 4294967295: not within the limits of the meter"]),
+    (block(IMAGE, 0), 2, []),
+    (OFFER, 0, []),
+    (VERIFY, 2, []),
+    (block(IMAGE + bytes(1024), 1), 250, []),
+    (block(IMAGE, 0), 0, []),
+    (VERIFY, 0, [f"verified 7 1 5 {DIGESTS[0]}"]),
+    (VERIFY, 2, []),
+    (ACTIVATE, 0, [f"activated 7 1 5 {DIGESTS[0]}"]),
+    (offer(spelled(IMAGE, 1, 4), 8), 250, ["refused 7 1 4 8: release 4 is below the running 5"]),
+    (offer(spelled(OTHER, 2, 5), 8), 0, []),
+    (block(IMAGE, 0), 0, []),
+    (VERIFY, 250, [f"differs 7 2 5 {DIGESTS[1]}"]),
+]
+# The same of one that can write to no file, once and then with room; the image is there already.
+FAILS = [
+    (SET_ENABLED, "enable", []),
+    (OFFER, "initiate", []),
+    (block(IMAGE, 0), "block 0", []),
+    (VERIFY, "verify", [f"verified 7 1 5 {DIGESTS[0]}"]),
+    (ACTIVATE, "activate", [f"activated 7 1 5 {DIGESTS[0]}"]),
+]
+
+
+# To be seen: a meter that tells nothing of what it refuses, of what its store can't do or of what it verified; one that tells of another answer,
+# of what has no answer, or another cause.
+def a_meter_tells_what_it_does(place):
+    """A meter tells why it refuses an initiate, what becomes of an image, and at what its store fails; of anything else nothing."""
+    signal.pthread_sigmask(signal.SIG_BLOCK, [signal.SIGXFSZ])
+    head, want = Head(), []
+    with Meter(place.folder / "meter.fw", "--head", head.address()).killed() as meter:
+        for line, code, told in TELLS:
+            answered(head, meter, line, code)
+            want += told
+        # An initiate that is refused, and for which no answer is wanted.
+        head.socket.sendto(bytes.fromhex(offer(spelled(IMAGE, 1, 4), 8).replace("c301c1", "c30181")), meter.address)
+        for line, work, told in FAILS:
+            with full_disk(meter.process):
+                answered(head, meter, line, 1)
+            answered(head, meter, line, 0)
+            want += [f"store failed at {work}", *told]
+        wait_for(lambda: len(meter.lines) >= len(want), f"the meter prints {meter.lines}")
+    wants(meter.lines == [f"{line}\n" for line in want], f"the meter prints {meter.lines}")
+
+
+# To be seen: a turn in which the store fails that tells nothing, or that tells of an image that isn't verified.
+def a_verification_that_fails_is_told(place):
+    """If a store fails in a turn, the meter tells it, and gives the verification up; asked again it verifies the image, and tells that."""
+    signal.pthread_sigmask(signal.SIG_BLOCK, [signal.SIGXFSZ])
+    image, head = bytes(range(256)) * 48, Head()
+    told = f"verified 7 1 0 {hashlib.sha256(image).hexdigest()}\n"
+    with Meter(place.folder / "meter.fw", "--head", head.address()).killed() as meter:
+        for line in transfer(image):
+            answered(head, meter, line, 0)
+        with full_disk(meter.process):
+            answered(head, meter, VERIFY, 2)
+            wait_for(lambda: meter.lines == ["store failed at verify\n"], f"the meter prints {meter.lines}")
+        got = head.ask_until(meter, GET_STATUS)
+        wants(got == STATUS % 1, f"then its status is {got}")
+        answered(head, meter, VERIFY, 2)
+        wait_for(lambda: meter.lines[1:] == [told], f"the meter prints {meter.lines}")
+
+
+# To be seen: a meter that tells of each initiate that it refuses, however many come; one of several that tells another number, or none.
+def lines_have_a_limit(place):
+    """Of 100 initiates that are refused 60 are told, by a meter that is alone, and by several together. What is verified is told all the same."""
+    head = Head()
+    refused = "refused - - - 8: no name\n"
+    with Meter(place.folder / "meter.fw", "--head", head.address()).killed() as meter:
+        for line, code in (SET_ENABLED, 0), *(100 * [(offer("6162", 8), 250)]), (OFFER, 0), (block(IMAGE, 0), 0), (VERIFY, 0):
+            answered(head, meter, line, code)
+        want = [*(60 * [refused]), f"verified 7 1 5 {DIGESTS[0]}\n"]
+        wait_for(lambda: len(meter.lines) >= len(want), f"the meter prints {meter.lines}")
+    wants(meter.lines == want, f"the meter prints {meter.lines}")
+    fleet = Members(place.folder, 2, "--head", head.address())
+    with fleet.meter.killed():
+        for meter in fleet.at:
+            answered(head, meter, SET_ENABLED, 0)
+        for _ in range(50):
+            for meter in fleet.at:
+                answered(head, meter, offer("6162", 8), 250)
+        want = 30 * [f"meter 1 {refused}", f"meter 2 {refused}"]
+        wait_for(lambda: len(fleet.meter.lines) > len(want), f"the fleet prints {fleet.meter.lines}")
+    wants(fleet.meter.lines[1:] == want, f"the fleet prints {fleet.meter.lines}")
 
 
 # ---- fleets
@@ -446,6 +599,7 @@ def a_quiet_fleet_rests(place):
 STEPS = [
     a_meter_replies_once,
     a_head_end_asks_once,
+    a_row_that_gets_nowhere_rests,
     strangers_are_dropped,
     the_flight_is_kept,
     a_socket_may_fail,
@@ -458,6 +612,9 @@ STEPS = [
     strangers_are_captured,
     a_capture_that_fails_is_told,
     verifies_in_turns,
+    a_meter_tells_what_it_does,
+    a_verification_that_fails_is_told,
+    lines_have_a_limit,
     a_flooded_fleet_hears,
     a_quiet_fleet_rests,
 ]

@@ -90,6 +90,29 @@ def a_list_changes(place):
         fleet.run(image)
 
 
+# To be seen: a meter that is opened for again though it has such a row, since that was cancelled; one that isn't, since it has a row of an earlier
+# campaign, of another release or of another image.
+def a_row_counts_from_its_serial_on(place):
+    """With --open SERIAL a meter gets no campaign if it has a row of that image and release from SERIAL on, even a cancelled one. An earlier row is
+    none of these, and neither is one of another release or image."""
+    silent, again = bound(), opening(place.folder, b"image", 5)
+    listed(place.folder, [silent.getsockname()])
+    with HeadEnd(place.folder, "--new", *again, *PATIENT).running() as head:
+        lines_until(head, "opened 7 5 ")
+    HeadEnd(place.folder, "--cancel", "5").over(patience=PATIENCE)
+    lines = HeadEnd(place.folder, *again).over(patience=PATIENCE)
+    wants(lines[1:] == ["over done 0 failed 0"], f"for a meter with a cancelled row it prints {lines}")
+    for serial, release, image, opened in ((6, 2, b"image", 6), (5, 3, b"image", 7), (5, 3, b"other", 8)):
+        words = opening(place.folder, image, serial)
+        words[words.index("--release") + 1] = str(release)
+        with HeadEnd(place.folder, *words, *PATIENT).running() as head:
+            lines = lines_until(head, "opened ")
+        digest = hashlib.sha256(image).hexdigest()
+        wants(lines[1:] == [f"opened 7 {opened} {release} {digest}"], f"from {serial} on, for release {release}, it prints {lines}")
+        HeadEnd(place.folder, "--cancel", str(opened)).over(patience=PATIENCE)
+    wants(rows_of(place.folder) == [f"7,{serial},1,cancelled" for serial in (5, 6, 7, 8)], f"status has {rows_of(place.folder)}")
+
+
 # To be seen: a cancel that cancels nothing, or in memory alone; one that cancels another campaign, or all; one that is told and not done; a
 # cancelled row that is led on.
 def a_campaign_is_cancelled(place):
@@ -314,6 +337,7 @@ def each_of_a_fleet_has_its_own(place):
 STEPS = [
     a_second_start_goes_on,
     a_list_changes,
+    a_row_counts_from_its_serial_on,
     a_campaign_is_cancelled,
     campaigns_are_cancelled_by_ranges,
     what_names_no_campaigns_is_refused,

@@ -5,7 +5,7 @@ use Rattle.clap.specs.declared.error.kind.ErrorKind.{ErrorKind}
 use Rattle.clap.specs.declared.error.kind.ErrorKind.TheVariants.{DisplayHelp, DisplayVersion, OutOfMemory}
 use Rattle.clap.specs.Values.{kind_of}
 use Rattle.dlmsfw.specs.declared.Ending.{Ending}
-use Rattle.dlmsfw.specs.declared.Ending.TheVariants.{Fault, Capture, Trace, Answer, Meter, Book, Keys, Refused, RowsFailed, RowsUnlisted, RowsLacking, CommandLine, NoText}
+use Rattle.dlmsfw.specs.declared.Ending.TheVariants.{Fault, Capture, Trace, Answer, Meter, Book, Told, Keys, Refused, RowsFailed, RowsUnlisted, RowsLacking, CommandLine, NoText}
 
 -- the text that was asked for
 abbrev pub IsHelp : ErrorKind → Type 0
@@ -25,6 +25,7 @@ EndsWith (Trace ended reason places) status = status ≡ 1
 EndsWith (Answer because store) status = status ≡ 1
 EndsWith (Meter ended places) status = status ≡ 1
 EndsWith (Book because places) status = status ≡ 1
+EndsWith (Told untold) status = status ≡ 1
 EndsWith (Keys failure places) status = status ≡ 1
 EndsWith Refused status = status ≡ 1
 EndsWith RowsFailed status = status ≡ 4

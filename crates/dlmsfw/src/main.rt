@@ -25,12 +25,13 @@ mod options;
 mod plain_file;
 mod refusal;
 mod streams;
+mod told_files;
 mod trace_places;
 
 use cause::{BookPlaces, MeterPlaces, NamedFile, Place};
 use clap::error::ErrorKind;
 use fw_cli::{
-    AnswerOptions, CancelFault, CancelOptions, Ended, GaveUp, GiveUpOptions, HeadOptions,
+    AnswerOptions, CancelFault, CancelOptions, Ended, GaveUp, GiveUpOptions, HeadOptions, HeadTold,
     KeysFailure, KeysOptions, LedOut, LiveOptions, MeterFault, MeterOptions, NameOptions,
     RehearseOptions, ReplayOptions, StatusOptions, StoredOptions, TraceKeys, run_answer,
     run_answer_stored, run_cancel, run_give_up, run_head, run_keys, run_live, run_meter, run_name,
@@ -42,7 +43,7 @@ use fw_host::ProgressOutput;
 use fw_names::HeadId;
 use fw_seal::Link;
 use key_places::KeyPlaces;
-use options::{CaptureOption, Invocation, TraceOptions};
+use options::{CaptureOption, HeadShown, Invocation, TraceOptions};
 use plain_file::PlainFile;
 use refusal::Refusal;
 use std::alloc::Global;
@@ -56,6 +57,7 @@ use std::rt::{Clock, Env, Files};
 use std::sync::Wait;
 use std::thread::Threads;
 use std::{env, io};
+use told_files::{Untold, begin_metrics, metrics_at, opened_events};
 use trace_places::{TraceFault, TracePlaces};
 
 /// The microseconds of a second.
@@ -94,6 +96,8 @@ enum Ending<'a> {
     Meter(MeterFault, MeterPlaces<'a>),
     /// A fault of a head end with this address and these files, or of the book that is read.
     Book(Because<Fault>, BookPlaces<'a>),
+    /// The file of events or of metrics of a head end can't be made, opened or written.
+    Told(Untold<'a>),
     /// A fault of the making of keys from this list into this folder.
     Keys(KeysFailure, KeyPlaces<'a>),
     /// An event of a script was refused, and the command has reported it.
@@ -156,7 +160,7 @@ fn run<
         + RandomSource
         + Sync,
     E: Eprint + Sync,
->(rt: &R, terminal: Option<&E>, words: &'a [String]) -> Result<(), Ending<'a>> {
+>(rt: &'a R, terminal: Option<&E>, words: &'a [String]) -> Result<(), Ending<'a>> {
     match options::parse(rt.alloc(), words) {
         Ok(invocation) => run_command(rt, terminal, invocation),
         Err(error) => Err(Ending::CommandLine(error)),
@@ -178,7 +182,7 @@ fn run_command<
         + RandomSource
         + Sync,
     E: Eprint + Sync,
->(rt: &R, terminal: Option<&E>, invocation: Invocation<'a>) -> Result<(), Ending<'a>> {
+>(rt: &'a R, terminal: Option<&E>, invocation: Invocation<'a>) -> Result<(), Ending<'a>> {
     match invocation {
         Invocation::Answer(options) => answer(rt, options),
         Invocation::StoredAnswer(options) => answer_stored(rt, options),
@@ -190,7 +194,7 @@ fn run_command<
         Invocation::Meter(options) => meter(rt, options),
         Invocation::Head(options, shown) => {
             let progress = progress_on(terminal.is_some(), shown.every);
-            head(rt, progress, &options, shown.cancel)
+            head(rt, progress, &options, shown)
         }
         Invocation::Cancel(options) => cancel(rt, &options),
         Invocation::GiveUp(options) => give_up(rt, &options),
@@ -400,22 +404,41 @@ fn progress_on(is_terminal: bool, every: u32) -> ProgressOutput {
 
 /// `head`, until no row is live that it leads. The campaigns that it cancels first were given so.
 fn head<'a, R: AllocGlobal + Files<File = File> + Clock + Print + Eprint + Net + Wait>(
-    rt: &R,
+    rt: &'a R,
     progress: ProgressOutput,
     options: &HeadOptions<'a>,
-    cancel: Option<&'a str>,
+    shown: HeadShown<'a>,
 ) -> Result<(), Ending<'a>>
     ensures led { OnOk result (HasLedOut options.now NoneFailed) }
     ensures failed { IfErr result (λ e. e ≡ Ending.RowsFailed → HasLedOut options.now SomeFailed) }
     ensures unlisted { IfErr result (λ e. e ≡ Ending.RowsUnlisted → HasLedOut options.now SomeUnlisted) }
     ensures stays { OnOk result (options.now.stays ≡ false) }
 {
+    let alloc = rt.alloc();
+    let opened = match opened_events(rt, alloc, options.head, shown.events) {
+        Ok(opened) => opened,
+        Err(untold) => return Err(Ending::Told(untold)),
+    };
+    let book = options.book.path;
+    if let Err(untold) = begin_metrics(rt, alloc, options.head, book, shown.metrics) {
+        return Err(Ending::Told(untold));
+    }
+    let metrics = metrics_at(rt, alloc, options.head, book, shown.metrics);
+    let (events, rows) = match &opened {
+        Some((events, rows)) => (Some(events), Some(rows)),
+        None => (None, None),
+    };
+    let told = HeadTold {
+        events,
+        rows,
+        metrics,
+    };
     let writer = &mut io::writer(rt);
-    match run_head(rt, rt.alloc(), writer, progress, options) {
+    match run_head(rt, alloc, writer, progress, &told, options) {
         Ok(LedOut::NoneFailed) => Ok(()),
         Ok(LedOut::SomeFailed) => Err(Ending::RowsFailed),
         Ok(LedOut::SomeUnlisted) => Err(Ending::RowsUnlisted),
-        Err(because) => Err(Ending::Book(because, BookPlaces::of_head(options, cancel))),
+        Err(because) => Err(Ending::Book(because, BookPlaces::of_head(options, shown.cancel))),
     }
 }
 
@@ -600,6 +623,10 @@ fn report(rt: &(impl Print + Eprint + Net + Files), ending: Ending<'_>) -> ExitC
             let place = cause::book_place_of(&because, places);
             let refusal = cause::book_refusal_of(rt, &because, place);
             fail_at(rt, because.error, place, refusal)
+        }
+        Ending::Told(untold) => {
+            let refusal = Some(Refusal::File(untold.reason.cause));
+            fail_at(rt, Fault::Output, Some(untold.place), refusal)
         }
         Ending::Keys(failure, places) => fail_keys(rt, &failure, &places),
         Ending::Refused => ExitCode::from(FAULT),

@@ -53,6 +53,10 @@ pub(crate) struct HeadShown<'a> {
     pub(crate) every: u32,
     /// The campaigns that are cancelled first, as they were given.
     pub(crate) cancel: Option<&'a str>,
+    /// The path of the file of events, if they are asked for.
+    pub(crate) events: Option<&'a str>,
+    /// The path of the file of metrics, if they are asked for.
+    pub(crate) metrics: Option<&'a str>,
 }
 
 /// Where the capture of a run goes.
@@ -133,7 +137,7 @@ Limits:
   an image     16777216 bytes (16 MiB), in 16384 blocks of 1 to 1024 bytes
   a campaign   256 meters
   a script     16 head ends and 256 meters
-  input        67108864 bytes (64 MiB)
+  input        67108864 bytes (64 MiB), but for a capture that is traced
 
 Exit status:
   0  the command did all its work

@@ -2,11 +2,11 @@
 use Rattle.std.proofs.Common.{◌≡◌, ℕ, suc, ◌+◌, ◌<◌, ◌≤◌, List, [], ◌∷◌, ◌++◌, get_or, length, map, set, refl, sym, ap, subst, append_assoc, append-nil, ◌∙◌, arith}
 use Rattle.std.proofs.lemmas.List.{get_or-map, length-map, map-append, map-set}
 use Rattle.std.specs.Prelude.{Option, Some}
-use Rattle.fw_names.specs.Name.{Name}
 use Rattle.fw_daemon.specs.Daemon.{Daemon, daemon_of}
-use Rattle.fw_daemon.specs.Rounds.{GoesRound, GoesRounds, named, switches_in}
-use Rattle.fw_cli.specs.Fleets.{AllGo, AreWatched, FleetTurn, HadPass, IsTold, OneIsWatched, daemons_of, most_rounds, places_below, switches_of}
-use Rattle.fw_cli.specs.Telling.{Switch, switches_by}
+use Rattle.fw_daemon.specs.Rounds.{GoesRound, GoesRounds, events_in, listed}
+use Rattle.fw_daemon.specs.declared.event.MeterEvent.{MeterEvent}
+use Rattle.fw_cli.specs.Fleets.{AllGo, AreWatched, FleetTurn, HadPass, IsTold, OneIsWatched, daemons_of, happenings_of, most_rounds, places_below}
+use Rattle.fw_cli.specs.Telling.{Happening, happenings_by}
 use Rattle.fw_cli.specs.declared.fleet.Member.{Member}
 
 abbrev one_of : Member → Daemon
@@ -19,20 +19,20 @@ all_append : (start middle now : List Daemon) (xs ys : List FleetTurn) → AllGo
 all_append start middle now xs [] first same = subst (λ (d : List Daemon). AllGo start xs d) (sym same) first
 all_append start middle now xs (y ∷ ys) first (before, all, one) = (before, all_append start middle before xs ys first all, one)
 
-switches_append : (xs ys : List FleetTurn) → switches_of (ys ++ xs) ≡ switches_of xs ++ switches_of ys
-switches_append xs [] = sym (append-nil (switches_of xs))
-switches_append xs (y ∷ ys) =
-    let last = switches_by (Some (y.0 + 1)) (switches_in y.1) in
-    ap (λ (l : List Switch). l ++ last) (switches_append xs ys) ∙ append_assoc (switches_of xs) (switches_of ys) last
+happenings_append : (xs ys : List FleetTurn) → happenings_of (ys ++ xs) ≡ happenings_of xs ++ happenings_of ys
+happenings_append xs [] = sym (append-nil (happenings_of xs))
+happenings_append xs (y ∷ ys) =
+    let last = happenings_by (Some (y.0 + 1)) (events_in y.1) in
+    ap (λ (l : List Happening). l ++ last) (happenings_append xs ys) ∙ append_assoc (happenings_of xs) (happenings_of ys) last
 
--- a meter made so many rounds of its turn, and who watches was told of just the switches in them
-pub record MadeRounds {W : Type 0} (tells : W → List Switch → W → Type 0) (number count : ℕ) (start : Daemon) (old : W) (now : Daemon) (new : W) : Type 0 where
-  pub rounds : List (Option Name)
+-- a meter made so many rounds of its turn, and who watches was told of just what happened in them
+pub record MadeRounds {W : Type 0} (tells : W → List Happening → W → Type 0) (number count : ℕ) (start : Daemon) (old : W) (now : Daemon) (new : W) : Type 0 where
+  pub rounds : List (Option MeterEvent)
   pub made : GoesRounds start rounds now
   pub counted : length rounds ≡ count
-  pub told : IsTold tells (switches_by (Some number) (switches_in rounds)) old new
+  pub told : IsTold tells (happenings_by (Some number) (events_in rounds)) old new
 
-module _ {W : Type 0} (tells : W → List Switch → W → Type 0) where
+module _ {W : Type 0} (tells : W → List Happening → W → Type 0) where
   -- ---- a turn
 
   pub turn_begins : (number : ℕ) (start : Daemon) (w : W) → MadeRounds tells number 0 start w start w
@@ -40,23 +40,23 @@ module _ {W : Type 0} (tells : W → List Switch → W → Type 0) where
     rounds = [];
     made = refl;
     counted = refl;
-    told = λ first before was. subst (λ (l : List Switch). tells first l w) (sym (append-nil before)) was;
+    told = λ first before was. subst (λ (l : List Happening). tells first l w) (sym (append-nil before)) was;
   }
 
   -- the next round
-  pub turn_on : (number count : ℕ) (start middle now : Daemon) (old seen new : W) (activated : Option Name) → MadeRounds tells number count start old middle seen
-      → GoesRound middle activated now → IsTold tells (switches_by (Some number) (named activated)) seen new → MadeRounds tells number (count + 1) start old now new
-  turn_on number count start middle now old seen new activated was goes told =
-      let one : Name → Switch = λ name. (Some number, name) in
-      let first_ones = switches_by (Some number) (switches_in was.rounds) in
+  pub turn_on : (number count : ℕ) (start middle now : Daemon) (old seen new : W) (event : Option MeterEvent) → MadeRounds tells number count start old middle seen
+      → GoesRound middle event now → IsTold tells (happenings_by (Some number) (listed event)) seen new → MadeRounds tells number (count + 1) start old now new
+  turn_on number count start middle now old seen new event was goes told =
+      let one : MeterEvent → Happening = λ e. (Some number, e) in
+      let first_ones = happenings_by (Some number) (events_in was.rounds) in
       record {
-        rounds = activated ∷ was.rounds;
+        rounds = event ∷ was.rounds;
         made = (middle, was.made, goes);
         counted = let counted = was.counted in omega (arith, counted);
         told = λ first before is.
-            subst (λ (l : List Switch). tells first l new)
-            (append_assoc before first_ones (switches_by (Some number) (named activated))
-            ∙ ap (λ (l : List Switch). before ++ l) (sym (map-append one (switches_in was.rounds) (named activated))))
+            subst (λ (l : List Happening). tells first l new)
+            (append_assoc before first_ones (happenings_by (Some number) (listed event))
+            ∙ ap (λ (l : List Happening). before ++ l) (sym (map-append one (events_in was.rounds) (listed event))))
             (told first (before ++ first_ones) (was.told first before is));
       }
 
@@ -77,7 +77,7 @@ module _ {W : Type 0} (tells : W → List Switch → W → Type 0) where
     turns = [];
     made = refl;
     each = refl;
-    told = λ first before was. subst (λ (l : List Switch). tells first l w) (sym (append-nil before)) was;
+    told = λ first before was. subst (λ (l : List Happening). tells first l w) (sym (append-nil before)) was;
   }
 
   -- the next meter had its turn
@@ -87,7 +87,7 @@ module _ {W : Type 0} (tells : W → List Switch → W → Type 0) where
       → HadPass tells (place + 1) start old (daemons_of (set rows place stepped)) new
   pass_on start old seen new rows place number default stepped within is was one =
       let next : place + 1 ≡ suc place = omega arith in
-      let last = switches_by (Some (place + 1)) (switches_in one.rounds) in
+      let last = happenings_by (Some (place + 1)) (events_in one.rounds) in
       record {
         turns = (place, one.rounds) ∷ was.turns;
         made = (
@@ -105,8 +105,8 @@ module _ {W : Type 0} (tells : W → List Switch → W → Type 0) where
         );
         each = subst (λ (n : ℕ). place ∷ map place_of was.turns ≡ places_below n) (sym next) (ap (λ (l : List ℕ). place ∷ l) was.each);
         told = λ first before told.
-            subst (λ (l : List Switch). tells first l new) (append_assoc before (switches_of was.turns) last)
-            (subst (λ (n : ℕ). IsTold tells (switches_by (Some n) (switches_in one.rounds)) seen new) is one.told first (before ++ switches_of was.turns)
+            subst (λ (l : List Happening). tells first l new) (append_assoc before (happenings_of was.turns) last)
+            (subst (λ (n : ℕ). IsTold tells (happenings_by (Some n) (events_in one.rounds)) seen new) is one.told first (before ++ happenings_of was.turns)
             (was.told first before told));
       }
 
@@ -127,7 +127,7 @@ module _ {W : Type 0} (tells : W → List Switch → W → Type 0) where
     turns = two.turns ++ one.turns;
     made = all_append start middle now one.turns two.turns one.made two.made;
     told = λ first before was.
-        subst (λ (l : List Switch). tells first l new)
-        (append_assoc before (switches_of one.turns) (switches_of two.turns) ∙ ap (λ (l : List Switch). before ++ l) (sym (switches_append one.turns two.turns)))
-        (two.told first (before ++ switches_of one.turns) (one.told first before was));
+        subst (λ (l : List Happening). tells first l new)
+        (append_assoc before (happenings_of one.turns) (happenings_of two.turns) ∙ ap (λ (l : List Happening). before ++ l) (sym (happenings_append one.turns two.turns)))
+        (two.told first (before ++ happenings_of one.turns) (one.told first before was));
   }

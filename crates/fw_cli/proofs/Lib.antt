@@ -17,3 +17,4 @@ pub mod Linked
 pub mod Keyed
 pub mod Traced
 pub mod Dissected
+pub mod Rollouts

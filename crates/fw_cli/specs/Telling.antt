@@ -1,67 +1,76 @@
 -- For private clauses alone: what a daemon tells while it serves or leads, in lines.
-use Rattle.std.specs.Prelude.{◌≡◌, ℕ, Bool, true, false, List, [], ◌∷◌, ◌++◌, Option, None, Some, map}
-use Rattle.fw_names.specs.Name.{Name, name_of}
+use Rattle.std.specs.Prelude.{◌≡◌, ◌⊎◌, ℕ, Bool, true, false, IsTrue, List, [], ◌∷◌, ◌++◌, Option, None, map}
+use Rattle.fw_names.specs.Name.{name_of}
 use Rattle.fw_daemon.specs.Daemon.{Daemon}
-use Rattle.fw_daemon.specs.Rounds.{GoesRounds, switches_in}
+use Rattle.fw_daemon.specs.Rounds.{GoesRounds, events_in}
 use Rattle.fw_daemon.specs.declared.daemon.Dropped.{Dropped}
+use Rattle.fw_daemon.specs.declared.event.MeterEvent.{MeterEvent}
+use Rattle.fw_daemon.specs.declared.event.MeterEvent.TheVariants as event
 use Rattle.fw_head.specs.Head.{Head, campaign_at, cancelled_head, opened_head}
 use Rattle.fw_rollout.specs.Counting.{CountsRows}
 use Rattle.fw_rollout.specs.declared.daemon.Counts.{Counts}
 use Rattle.fw_rollout.specs.declared.ended.Ended.{Ended}
 use Rattle.fw_host.specs.Heads.{cancelled_line, opened_line}
-use Rattle.fw_host.specs.Meters.{activated_line, dropped_line}
+use Rattle.fw_host.specs.Meters.{dropped_line, event_line}
 use Rattle.fw_host.specs.Telling.{Told, lines_of_rows}
 
 -- ---- of meters
 
--- a meter switched to the image of this name: of several meters, the one of this number
-abbrev pub Switch : Type 0
-Switch = Option ℕ × Name
+-- what there is to tell of a meter: of several meters, of the one of this number
+abbrev pub Happening : Type 0
+Happening = Option ℕ × MeterEvent
 
--- the switches of a meter to the images of these names
-abbrev pub switches_by : Option ℕ → List Name → List Switch
-switches_by number names = map (λ (name : Name). (number, name)) names
+-- what there is to tell of one meter
+abbrev pub happenings_by : Option ℕ → List MeterEvent → List Happening
+happenings_by number events = map (λ (e : MeterEvent). (number, e)) events
 
 pub data Said : Type 0 where
-  -- a meter switched to an image
-  switched : Switch → Said
-  -- so much was dropped, so often the port failed, and so many datagrams didn't open
-  lacked : Dropped → ℕ → ℕ → Said
+  -- this happened
+  happened : Happening → Said
+  -- so much was dropped, so often the port failed, so many datagrams didn't open, and so many events were left out
+  lacked : Dropped → ℕ → ℕ → ℕ → Said
 
 abbrev pub line_of : Said → List ℕ
-line_of (switched one) = activated_line one.0 one.1
-line_of (lacked dropped faults unopened) = dropped_line dropped faults unopened
+line_of (happened one) = event_line one.0 one.1
+line_of (lacked dropped faults unopened untold) = dropped_line dropped faults unopened untold
 
 abbrev pub lines_of : List Said → List (List ℕ)
 lines_of said = map (λ (one : Said). line_of one) said
 
--- the switches of which it was said
-abbrev pub switches_said : List Said → List Switch
-switches_said [] = []
-switches_said (switched one ∷ said) = one ∷ switches_said said
-switches_said (lacked dropped faults unopened ∷ said) = switches_said said
+-- what happened of which it was said
+abbrev pub happenings_said : List Said → List Happening
+happenings_said [] = []
+happenings_said (happened one ∷ said) = one ∷ happenings_said said
+happenings_said (lacked dropped faults unopened untold ∷ said) = happenings_said said
 
--- what is said of a round of a meter
-abbrev pub said_of : Option ℕ → Option Name → List Said
-said_of number None = []
-said_of number (Some name) = switched (number, name) ∷ []
+-- refused initiates and failed calls of a store, of which there may come any number
+abbrev pub may_be_left_out : MeterEvent → Bool
+may_be_left_out (event.Refused name size why) = true
+may_be_left_out (event.Failed w) = true
+may_be_left_out e = false
+
+-- Of what happened these were told, in this order: each once, but for those that were left out.
+abbrev pub AreTold : List Happening → List Happening → Type 0
+AreTold [] told = told ≡ []
+AreTold (one ∷ others) told =
+    ((rest : List Happening) × (told ≡ one ∷ rest) × AreTold others rest) ⊎ (IsTrue (may_be_left_out one.1) × AreTold others told)
 
 -- what is said of what was dropped, if anything is
-abbrev pub lack_of : Bool → Dropped → ℕ → ℕ → List Said
-lack_of true dropped faults unopened = lacked dropped faults unopened ∷ []
-lack_of false dropped faults unopened = []
+abbrev pub lack_of : Bool → Dropped → ℕ → ℕ → ℕ → List Said
+lack_of true dropped faults unopened untold = lacked dropped faults unopened untold ∷ []
+lack_of false dropped faults unopened untold = []
 
--- of switches just these were told, in this order
-pub record IsSaid (switches : List Switch) (was_lost is_lost : Bool) (before after : Option (List ℕ)) : Type 0 where
+-- of what happened just these were told, as lines
+pub record IsSaid (happenings : List Happening) (was_lost is_lost : Bool) (before after : Option (List ℕ)) : Type 0 where
   pub said : List Said
-  pub are : switches_said said ≡ switches
+  pub are : AreTold happenings (happenings_said said)
   pub told : Told (lines_of said) was_lost is_lost before after
 
--- a meter that is alone made rounds, and of switches just those in them were told
+-- a meter that is alone made rounds, and just what happened in them was told
 pub record TellsRounds (start now : Daemon) (was_lost is_lost : Bool) (before after : Option (List ℕ)) : Type 0 where
-  pub rounds : List (Option Name)
+  pub rounds : List (Option MeterEvent)
   pub made : GoesRounds start rounds now
-  pub said : IsSaid (switches_by None (switches_in rounds)) was_lost is_lost before after
+  pub said : IsSaid (happenings_by None (events_in rounds)) was_lost is_lost before after
 
 -- ---- of head ends
 

@@ -1,5 +1,5 @@
 -- For private clauses alone: the waves of a rollout, and which meters are asked when.
-use Rattle.std.specs.Prelude.{◌≡◌, ℕ, List, Option, None, Some}
+use Rattle.std.specs.Prelude.{◌≡◌, ◌⊎◌, ℕ, List, Option, None, Some}
 use Rattle.fw_book.specs.Contents.{Contents}
 use Rattle.fw_kept.specs.Head.{book_of}
 use Rattle.fw_plan.specs.Waves.{IsGate, wave_rows}
@@ -7,6 +7,7 @@ use Rattle.fw_plan.specs.declared.gate.Gate.{Gate}
 use Rattle.fw_plan.specs.declared.gate.Gate.TheVariants as gate
 use Rattle.fw_plan.specs.declared.threshold.MaxFailed.{MaxFailed}
 use Rattle.fw_rollout.specs.Daemon.{kept_of, meters_of}
+use Rattle.fw_rollout.specs.Rollout.{Lists}
 use Rattle.fw_rollout.specs.declared.daemon.HeadDaemon.{HeadDaemon}
 use Rattle.fw_host.specs.Waves.{listed_in, up_to_wave, wave_meters}
 use Rattle.fw_host.specs.declared.wave_list.Planned.{Planned}
@@ -30,6 +31,10 @@ AsksNow waves (Some wave) daemon =
     IsGateOf waves (book_of (kept_of daemon)) (gate.Open wave) × (meters_of daemon ≡ up_to_wave wave waves.list.now)
 AsksNow waves None daemon =
     IsGateOf waves (book_of (kept_of daemon)) gate.Over × (meters_of daemon ≡ listed_in waves.list.now)
+
+-- the lists that a rollout of this list may come to ask: all of it, or those of a wave and of the waves before it
+abbrev pub wave_lists : List Planned → Lists
+wave_lists list meters = (meters ≡ listed_in list) ⊎ ((wave : ℕ) × (meters ≡ up_to_wave wave list))
 
 -- a rollout stops before a wave only if the gate says so
 abbrev pub IsWaveStop : Waves → Contents → WaveStop → Type 0

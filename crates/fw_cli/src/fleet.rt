@@ -37,11 +37,10 @@ use crate::capture_file::{CaptureFile, closing_plain, failure_of};
 use crate::fleet_watch::FleetWatch;
 use crate::judged::{Judge, Judged};
 use crate::meter::{Listening, MeterFault, MeterOptions, Teller, heads_of, strangers_of};
-use fw_daemon::{Dropped, MeterDaemon, step};
+use fw_daemon::{Dropped, MeterDaemon, MeterEvent, step};
 use fw_disk::Because;
 use fw_faults::{Fault, write_text};
 use fw_host::{CapturePort, Lines, Strangers, listening_line};
-use fw_names::ImageName;
 use fw_port::{Closed, Port, UdpPort};
 use fw_store::FileStore;
 use std::alloc::{AllocError, Global};
@@ -95,8 +94,8 @@ impl Member {
         rt: &C,
         alloc: Global,
         common: &mut Common,
-    ) -> Result<Option<ImageName>, Closed>
-        ensures goes { IfOk result (λ activated. GoesRound (daemon_of self.old.daemon) activated (daemon_of self.new.daemon)) }
+    ) -> Result<Option<MeterEvent>, Closed>
+        ensures goes { IfOk result (λ told. GoesRound (daemon_of self.old.daemon) told (daemon_of self.new.daemon)) }
         ensures closed { OnErr result (daemon_of self.new.daemon ≡ daemon_of self.old.daemon) }
     {
         let mut port = CapturePort::of_meter(
@@ -127,9 +126,9 @@ impl Member {
     {
         let mut has_heard = false;
         for made in 0..MOST_ROUNDS {
-            let activated = self.step(rt, alloc, common)?;
+            let event = self.step(rt, alloc, common)?;
             let unopened = self.port.unopened();
-            watch.round_of(number, activated, common.dropped, common.faults, unopened);
+            watch.round_of(number, event, common.dropped, common.faults, unopened);
             if common.has_failed {
                 return Err(Closed);
             }
@@ -441,7 +440,7 @@ impl Fleet {
         self.serve_watched(rt, alloc, &mut teller)
     }
 
-    /// The same, told by this teller: each image that one of them switches to, with the number of the meter, once and in order.
+    /// The same, told by this teller: what there is to tell of each round, with the number of the meter, once and in order.
     fn serve_watched<R: Clock + Wait, W: Write>(
         &mut self,
         rt: &R,

@@ -31,7 +31,7 @@ pub(crate) fn tell_going_on<E: Eprint>(rt: &E, book: &Book) {
 }
 
 /// How many of these rows are in this state.
-fn count_in(rows: &[Row], state: RowState) -> usize {
+pub(crate) fn count_in(rows: &[Row], state: RowState) -> usize {
     rows.iter().filter(|row| row.state == state).count()
 }
 

@@ -26,6 +26,7 @@ ghost use Rattle.fw_cli.specs.Waves.{AreWaves};
 use crate::beginning::{Changes, Opened, begin, judge, opened_of};
 use crate::capture_file::{CaptureFile, closing, failure_of, reason_of};
 use crate::going_on::{tell_going_on, tell_unlisted};
+use crate::head_watch::{HeadTold, Watched};
 use crate::meter::{Listening, RecordedPort, tell_listening};
 use crate::sealing::{JudgedSealing, Keyed, keyed_head};
 use crate::waves::{WaveStop, Waves};
@@ -133,6 +134,9 @@ impl LedOut {
 /// lost. Standard error shows the progress as `progress` says. It is told of records that the book lacks, and of the file that keeps them
 /// ([`kept_head`]), then of each campaign that has live rows from an earlier run, and of each live row whose meter isn't in the list.
 ///
+/// Events and metrics go where `told` says: each line after the first has its event behind it, and each row that ended without one gets it
+/// before others are led. One that can't be written is lost.
+///
 /// # Errors
 ///
 /// With a fault of a file stands why it was refused, if that is known.
@@ -165,6 +169,7 @@ pub fn run_head<R: Files<File = File> + Clock + Eprint + Net + Wait, W: Write>(
     alloc: Global,
     writer: &mut W,
     progress: ProgressOutput,
+    told: &HeadTold<'_, R>,
     options: &HeadOptions<'_>,
 ) -> Result<LedOut, Because<Fault>>
     // If it ends well, what the options ask for was cancelled and opened, and no row is live that a daemon leads. It says whether a row is
@@ -189,8 +194,11 @@ pub fn run_head<R: Files<File = File> + Clock + Eprint + Net + Wait, W: Write>(
     let strangers = strangers_of(alloc, options, asked.list.meters().meters())?;
     tell_listening(alloc, writer, at)?;
     tell_going_on(rt, kept.head().view().book);
+    told.start(kept.head().view().book);
     let mut lines = Lines::new(alloc, writer);
+    lines.set_events(told.events);
     begin(alloc, &mut lines, &mut kept, changes, asked.opened.take())?;
+    told.catch_up(alloc, kept.head().view().book, kept.notes())?;
     let unlisted = tell_unlisted(rt, alloc, &kept, asked.list.meters())?;
     let waves = Waves::of_list(alloc, &asked.list, options.max_failed)?;
     let mut daemon = daemon_of(alloc, kept, options)?;
@@ -207,13 +215,17 @@ pub fn run_head<R: Files<File = File> + Clock + Eprint + Net + Wait, W: Write>(
         alloc,
         &mut lines,
         progress,
+        told,
         port,
         &mut daemon,
         &waves,
         options,
     ) {
         Ok(()) => Ok(LedOut::of(&unlisted, daemon.counts().failed)),
-        Err(because) => Err(of_book(because, daemon.device())),
+        Err(because) => {
+            told.fault(alloc, because.error);
+            Err(of_book(because, daemon.device()))
+        }
     }
 }
 
@@ -543,11 +555,12 @@ pub(crate) fn cancel_one<W: Write>(
 
 /// Leads the rows to their ends, wave after wave, and writes how many ended how. It returns `Ok` once none is live and all that ended is on the
 /// device, and never where it stays. Why a book failed the device knows.
-fn lead<R: Clock + Eprint + Wait, W: Write, D: JournalDevice + Drop>(
+fn lead<R: Files<File = File> + Clock + Eprint + Wait, W: Write, D: JournalDevice + Drop>(
     rt: &R,
     alloc: Global,
     lines: &mut Lines<'_, W>,
     output: ProgressOutput,
+    told: &HeadTold<'_, R>,
     port: RecordedPort<'_>,
     daemon: &mut HeadDaemon<D>,
     waves: &Waves<'_>,
@@ -584,11 +597,11 @@ fn lead<R: Clock + Eprint + Wait, W: Write, D: JournalDevice + Drop>(
         Some(Sealing { links, counters }) => {
             let port = SealedPort::new(alloc, port, links, counters);
             let mut port = UdpHeadPort::new(rt, port, lines, clears);
-            lead_sealed(rt, &mut port, output, daemon, waves, options)
+            lead_sealed(rt, alloc, &mut port, output, told, daemon, waves, options)
         }
         None => {
             let mut port = UdpHeadPort::new(rt, port, lines, clears);
-            lead_plain(rt, &mut port, output, daemon, waves, options)
+            lead_plain(rt, alloc, &mut port, output, told, daemon, waves, options)
         }
     };
     match led {
@@ -607,10 +620,17 @@ fn lead<R: Clock + Eprint + Wait, W: Write, D: JournalDevice + Drop>(
 }
 
 /// Leads the rows of a head end without keys to their ends. If it doesn't, it returns why its port is closed too, if it is.
-fn lead_plain<R: Clock + Eprint + Wait, W: Write, V: Sink + Drop, D: JournalDevice + Drop>(
+fn lead_plain<
+    R: Files<File = File> + Clock + Eprint + Wait,
+    W: Write,
+    V: Sink + Drop,
+    D: JournalDevice + Drop,
+>(
     rt: &R,
+    alloc: Global,
     port: &mut UdpHeadPort<'_, '_, R, W, CapturePort<'_, R, V>>,
     output: ProgressOutput,
+    told: &HeadTold<'_, R>,
     daemon: &mut HeadDaemon<D>,
     waves: &Waves<'_>,
     options: &HeadOptions<'_>,
@@ -621,15 +641,22 @@ fn lead_plain<R: Clock + Eprint + Wait, W: Write, V: Sink + Drop, D: JournalDevi
     ensures ran_out { OnOk result (HasRunOut daemon.new) }
     ensures stays { OnOk result (options.now.stays ≡ false) }
 {
-    lead_over(rt, port, output, daemon, waves, options.stays)
+    lead_over(rt, alloc, port, output, told, daemon, waves, options.stays)
 }
 
 /// Leads the rows of a head end to their ends over the links of its keys alone. If it doesn't, it returns why its port is closed too, if it
 /// is.
-fn lead_sealed<R: Clock + Eprint + Wait, W: Write, V: Sink + Drop, D: JournalDevice + Drop>(
+fn lead_sealed<
+    R: Files<File = File> + Clock + Eprint + Wait,
+    W: Write,
+    V: Sink + Drop,
+    D: JournalDevice + Drop,
+>(
     rt: &R,
+    alloc: Global,
     port: &mut UdpHeadPort<'_, '_, R, W, SealedPort<CapturePort<'_, R, V>, FileDevice>>,
     output: ProgressOutput,
+    told: &HeadTold<'_, R>,
     daemon: &mut HeadDaemon<D>,
     waves: &Waves<'_>,
     options: &HeadOptions<'_>,
@@ -640,14 +667,21 @@ fn lead_sealed<R: Clock + Eprint + Wait, W: Write, V: Sink + Drop, D: JournalDev
     ensures ran_out { OnOk result (HasRunOut daemon.new) }
     ensures stays { OnOk result (options.now.stays ≡ false) }
 {
-    lead_over(rt, port, output, daemon, waves, options.stays)
+    lead_over(rt, alloc, port, output, told, daemon, waves, options.stays)
 }
 
 /// Leads the rows to their ends over this port, and shows how far they are.
-fn lead_over<R: Clock + Eprint + Wait, W: Write, P: DatagramPort + Drop, D: JournalDevice + Drop>(
+fn lead_over<
+    R: Files<File = File> + Clock + Eprint + Wait,
+    W: Write,
+    P: DatagramPort + Drop,
+    D: JournalDevice + Drop,
+>(
     rt: &R,
+    alloc: Global,
     port: &mut UdpHeadPort<'_, '_, R, W, P>,
     output: ProgressOutput,
+    told: &HeadTold<'_, R>,
     daemon: &mut HeadDaemon<D>,
     waves: &Waves<'_>,
     stays: bool,
@@ -657,8 +691,11 @@ fn lead_over<R: Clock + Eprint + Wait, W: Write, P: DatagramPort + Drop, D: Jour
     ensures ran_out { OnOk result (HasRunOut daemon.new) }
     ensures stays { OnOk result (stays ≡ false) }
 {
-    let mut progress = HeadProgress::new(rt, output);
-    match lead_told(rt, port, daemon, waves, stays, &mut progress) {
+    let progress = HeadProgress::new(rt, output);
+    let mut watch = Watched::new(rt, alloc, progress, told);
+    let led = lead_told(rt, port, daemon, waves, stays, &mut watch);
+    watch.finish(daemon.head().view().book);
+    match led {
         Ok(()) => Ok(()),
         Err(stop) => Err((stop, port.closed_by())),
     }
@@ -666,13 +703,18 @@ fn lead_over<R: Clock + Eprint + Wait, W: Write, P: DatagramPort + Drop, D: Jour
 
 /// Leads the rows to their ends over this port, and writes the line of each row that ended, once and in order. It returns as
 /// `Waves::lead` does.
-fn lead_told<R: Clock + Eprint + Wait, W: Write, P: DatagramPort + Drop, D: JournalDevice + Drop>(
+fn lead_told<
+    R: Files<File = File> + Clock + Eprint + Wait,
+    W: Write,
+    P: DatagramPort + Drop,
+    D: JournalDevice + Drop,
+>(
     rt: &R,
     port: &mut UdpHeadPort<'_, '_, R, W, P>,
     daemon: &mut HeadDaemon<D>,
     waves: &Waves<'_>,
     stays: bool,
-    progress: &mut HeadProgress<'_, R>,
+    watch: &mut Watched<'_, R>,
 ) -> Result<(), WaveStop>
     ensures over { (now : Leader) → IsLed D.honest D.contents D.may_leave daemon.new now → OnOk result (IsOver now) }
     ensures asks { OnOk result (meters_of daemon.new ≡ listed_in waves.now.list.now) }
@@ -683,5 +725,5 @@ fn lead_told<R: Clock + Eprint + Wait, W: Write, P: DatagramPort + Drop, D: Jour
     ensures told { TellsEnded (counted_of daemon.old) (counted_of daemon.new) [] port.old.lines.now.lost port.new.lines.now.lost
         (W.contents port.old.lines.now.writer.now) (W.contents port.new.lines.now.writer.now) }
 {
-    waves.lead(rt, port, daemon, stays, progress)
+    waves.lead(rt, port, daemon, stays, watch)
 }

@@ -1,6 +1,6 @@
 //! The command `meter`: a meter in a file answers datagrams over UDP until it is ended.
 
-ghost use Rattle.std.specs.Prelude.{◌≡◌, ◌≢◌, ◌⊎◌, Bool, None, Some, IfErr, IfOk, IsErr, IsTrue, OnOk, false, is_some};
+ghost use Rattle.std.specs.Prelude.{◌≡◌, ◌≢◌, ◌⊎◌, ◌∷◌, [], Bool, None, Some, IfErr, IfOk, IsErr, IsTrue, OnOk, false, is_some};
 ghost use Rattle.std.specs.Io.KnownBytes.{Appends, Keeps};
 ghost use Rattle.std.specs.declared.net.socket_addr.SocketAddr.{SocketAddr as Address};
 ghost use Rattle.fw_daemon.specs.Daemon.{daemon_of};
@@ -8,18 +8,20 @@ ghost use Rattle.fw_store.specs.Setup.{IsSetup};
 ghost use Rattle.fw_store.specs.declared.version.HeaderVersion.TheVariants.{Two};
 ghost use Rattle.fw_cli.specs.Faults.{IsKeyed, IsOfMeter, IsOfServing, NamesMeter, count_of};
 ghost use Rattle.fw_host.specs.Captures.{IsOfCapture};
-ghost use Rattle.fw_host.specs.Meters.{activated_line, default_factory, dropped_line, listening_line};
+ghost use Rattle.fw_daemon.specs.Rounds.{listed};
+ghost use Rattle.fw_host.specs.Meters.{default_factory, listening_line};
 ghost use Rattle.fw_host.specs.Strangers.{is_strange, is_stranger};
 ghost use Rattle.fw_host.specs.Telling.{Told};
 ghost use Rattle.fw_cli.specs.Sealing.{IsMeterSealing, links_in};
-ghost use Rattle.fw_cli.specs.Telling.{TellsRounds, lack_of, lines_of, said_of};
+ghost use Rattle.fw_cli.specs.Telling.{IsSaid, TellsRounds, happenings_by, lack_of, lines_of};
 
 use crate::capture_file::{CaptureFile, closing, failure_of};
 use crate::fleet::serve_fleet;
 use crate::fleet_watch::FleetWatch;
 use crate::judged::Judge;
+use crate::limit::{Limit, is_due};
 use crate::sealing::{JudgedSealing, keyed_meter};
-use fw_daemon::{Dropped, MeterDaemon, Watch, serve};
+use fw_daemon::{Dropped, MeterDaemon, MeterEvent, Watch, serve};
 use fw_disk::{Because, Reason};
 use fw_faults::{Fault, write_text};
 use fw_host::{
@@ -27,7 +29,6 @@ use fw_host::{
     listening_line,
 };
 use fw_journal::FileDevice;
-use fw_names::ImageName;
 use fw_port::{Closed, NoReport, Port, SocketError, UdpPort};
 use fw_recording::Sink;
 use fw_sealport::SealedPort;
@@ -38,10 +39,7 @@ use std::io::Write;
 use std::net::{Net, SocketAddr};
 use std::rt::{Clock, Files};
 use std::sync::Wait;
-use std::time::{Duration, Instant};
-
-/// The seconds from one line about what was dropped to the next.
-const DROPPED_EVERY: u64 = 60;
+use std::time::Instant;
 
 /// The options of the command.
 #[derive(Drop)]
@@ -131,9 +129,10 @@ impl From<Fault> for MeterFault {
 /// All sockets are bound first, and keys are read. Then each meter's file that is there is opened, what new meters are made with is judged,
 /// and counters that are there are opened. The file of the capture comes next, then a new one of counters, and new files of meters last.
 ///
-/// The writer gets the line `listening ..`, once datagrams are received, `activated ..` for each image that the meter switches to, and
-/// `dropped ..` where more was dropped, once a minute at most. With a count it is `meter N activated ..`. Each is flushed. After the first, a
-/// line that can't be written is lost.
+/// The writer gets the line `listening ..`, once datagrams are received, `verified ..`, `differs ..` and `activated ..` for each image that the
+/// meter verifies or switches to, `refused ..` for an initiate that it refuses, `store failed ..` where its store failed, and `dropped ..` where
+/// more was dropped, once a minute at most. Of refusals and failures there are 60 lines a minute at most; `dropped ..` counts those that were left
+/// out. With a count, lines of a meter begin with `meter N`. Each is flushed. After the first, a line that can't be written is lost.
 ///
 /// # Errors
 ///
@@ -349,7 +348,7 @@ fn serve_told<R: Clock + Wait, W: Write, P: Port<NoReport>>(
     serve_watched(rt, alloc, port, daemon, &mut teller)
 }
 
-/// The same, told by this teller: each image that the meter switches to, once and in order.
+/// The same, told by this teller: what there is to tell of each round, once and in order.
 fn serve_watched<R: Clock + Wait, W: Write, P: Port<NoReport>>(
     rt: &R,
     alloc: Global,
@@ -398,8 +397,11 @@ pub(crate) struct Teller<'a, 'w, C: Clock, W: Write> {
     dropped: Dropped,
     faults: u64,
     unopened: u64,
+    untold: u64,
     /// When that was.
     told_at: Option<Instant>,
+    /// How many refusals and failures may be told.
+    limit: Limit,
 }
 
 impl<'a, 'w, C: Clock, W: Write> Teller<'a, 'w, C, W> {
@@ -419,32 +421,52 @@ impl<'a, 'w, C: Clock, W: Write> Teller<'a, 'w, C, W> {
             },
             faults: 0,
             unopened: 0,
+            untold: 0,
             told_at: Instant::now(rt).ok(),
+            limit: Limit::new(),
         }
     }
 
-    /// Reports the image that a meter switched to, where it did: of several meters, that of this number.
-    fn tell_switch(&mut self, number: Option<usize>, activated: Option<ImageName>)
+    /// Reports what there is to tell of a round, if there is something: of several meters, of that of this number.
+    fn tell_event(&mut self, number: Option<usize>, event: Option<MeterEvent>)
         ensures lines { self.new.lines.ghost_name ≡ self.old.lines.ghost_name }
         ensures writer { self.new.lines.now.writer.ghost_name ≡ self.old.lines.now.writer.ghost_name }
-        ensures told { Told (lines_of (said_of number activated)) self.old.lines.now.lost self.new.lines.now.lost
+        ensures told { IsSaid (happenings_by number (listed event)) self.old.lines.now.lost self.new.lines.now.lost
             (W.contents self.old.lines.now.writer.now) (W.contents self.new.lines.now.writer.now) }
     {
-        match activated {
-            Some(name) => self.lines.tell_activated(number, name),
+        match event {
+            Some(event) => self.tell_one(number, event),
             None => {}
         }
     }
 
-    /// Reports what was dropped if that is not what the last line said, and a minute or more after that line. Where the system
-    /// has no time, it reports nothing.
+    /// Reports what there is to tell, unless it is left out.
+    fn tell_one(&mut self, number: Option<usize>, event: MeterEvent)
+        ensures lines { self.new.lines.ghost_name ≡ self.old.lines.ghost_name }
+        ensures writer { self.new.lines.now.writer.ghost_name ≡ self.old.lines.now.writer.ghost_name }
+        ensures told { IsSaid (happenings_by number (event ∷ [])) self.old.lines.now.lost self.new.lines.now.lost
+            (W.contents self.old.lines.now.writer.now) (W.contents self.new.lines.now.writer.now) }
+    {
+        if self.limit.leaves_out(self.rt, &event) {
+            return;
+        }
+        self.lines.tell_event(number, event);
+    }
+
+    /// Reports what was dropped, and how many events were left out, if that is not what the last line said, and a minute or more after that
+    /// line. Where the system has no time, it reports nothing.
     fn tell_dropped(&mut self, dropped: Dropped, faults: u64, unopened: u64)
         ensures lines { self.new.lines.ghost_name ≡ self.old.lines.ghost_name }
         ensures writer { self.new.lines.now.writer.ghost_name ≡ self.old.lines.now.writer.ghost_name }
-        ensures told { (says : Bool) × Told (lines_of (lack_of says dropped faults unopened)) self.old.lines.now.lost self.new.lines.now.lost
-            (W.contents self.old.lines.now.writer.now) (W.contents self.new.lines.now.writer.now) }
+        ensures told { (says : Bool) × Told (lines_of (lack_of says dropped faults unopened self.old.limit.left_out)) self.old.lines.now.lost
+            self.new.lines.now.lost (W.contents self.old.lines.now.writer.now) (W.contents self.new.lines.now.writer.now) }
     {
-        if dropped == self.dropped && faults == self.faults && unopened == self.unopened {
+        let untold = self.limit.left_out;
+        if dropped == self.dropped
+            && faults == self.faults
+            && unopened == self.unopened
+            && untold == self.untold
+        {
             return;
         }
         let Ok(now) = Instant::now(self.rt) else {
@@ -456,28 +478,23 @@ impl<'a, 'w, C: Clock, W: Write> Teller<'a, 'w, C, W> {
         self.dropped = dropped;
         self.faults = faults;
         self.unopened = unopened;
+        self.untold = untold;
         self.told_at = Some(now);
-        self.lines.tell_dropped(dropped, faults, unopened);
+        self.lines.tell_dropped(dropped, faults, unopened, untold);
     }
 }
 
 impl<'a, 'w, C: Clock, W: Write> Watch for Teller<'a, 'w, C, W> {
     ghost use Rattle.std.specs.Prelude.{◌≡◌, None};
-    ghost use Rattle.fw_cli.specs.Telling.{IsSaid, switches_by};
+    ghost use Rattle.fw_cli.specs.Telling.{IsSaid, happenings_by};
 
-    ghost tells = { λ start names teller. (teller.lines.ghost_name ≡ start.lines.ghost_name)
+    ghost tells = { λ start events teller. (teller.lines.ghost_name ≡ start.lines.ghost_name)
         × (teller.lines.now.writer.ghost_name ≡ start.lines.now.writer.ghost_name)
-        × IsSaid (switches_by None names) start.lines.now.lost teller.lines.now.lost (W.contents start.lines.now.writer.now)
+        × IsSaid (happenings_by None events) start.lines.now.lost teller.lines.now.lost (W.contents start.lines.now.writer.now)
         (W.contents teller.lines.now.writer.now) };
 
-    fn round(
-        &mut self,
-        activated: Option<ImageName>,
-        dropped: Dropped,
-        faults: u64,
-        unopened: u64,
-    ) {
-        self.tell_switch(None, activated);
+    fn round(&mut self, event: Option<MeterEvent>, dropped: Dropped, faults: u64, unopened: u64) {
+        self.tell_event(None, event);
         self.tell_dropped(dropped, faults, unopened);
     }
 }
@@ -486,29 +503,21 @@ impl<'a, 'w, C: Clock, W: Write> FleetWatch for Teller<'a, 'w, C, W> {
     ghost use Rattle.std.specs.Prelude.{◌≡◌};
     ghost use Rattle.fw_cli.specs.Telling.{IsSaid};
 
-    ghost tells = { λ start switches teller. (teller.lines.ghost_name ≡ start.lines.ghost_name)
+    ghost tells = { λ start happenings teller. (teller.lines.ghost_name ≡ start.lines.ghost_name)
         × (teller.lines.now.writer.ghost_name ≡ start.lines.now.writer.ghost_name)
-        × IsSaid switches start.lines.now.lost teller.lines.now.lost (W.contents start.lines.now.writer.now)
+        × IsSaid happenings start.lines.now.lost teller.lines.now.lost (W.contents start.lines.now.writer.now)
         (W.contents teller.lines.now.writer.now) };
 
     fn round_of(
         &mut self,
         number: usize,
-        activated: Option<ImageName>,
+        event: Option<MeterEvent>,
         dropped: Dropped,
         faults: u64,
         unopened: u64,
     ) {
-        self.tell_switch(Some(number), activated);
+        self.tell_event(Some(number), event);
         self.tell_dropped(dropped, faults, unopened);
-    }
-}
-
-/// Whether a minute went by since then.
-fn is_due(then: Option<Instant>, now: Instant) -> bool {
-    match then {
-        Some(then) => { now.saturating_duration_since(then) >= Duration::from_secs(DROPPED_EVERY) }
-        None => true,
     }
 }
 

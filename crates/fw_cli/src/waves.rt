@@ -3,10 +3,12 @@
 ghost use Rattle.std.specs.Prelude.{◌≡◌, IfErr, IfOk, OnOk, false};
 ghost use Rattle.fw_host.specs.Waves.{listed_in, up_to_wave};
 ghost use Rattle.fw_kept.specs.Head.{book_of};
-ghost use Rattle.fw_rollout.specs.Counting.{TellsCounted, counted_of};
+ghost use Rattle.fw_rollout.specs.Counting.{counted_of};
 ghost use Rattle.fw_rollout.specs.Daemon.{HasRunOut, IsLed, IsOver, kept_of, meters_of};
 ghost use Rattle.fw_rollout.specs.Leading.{Leader};
-ghost use Rattle.fw_cli.specs.Waves.{AreWaves, AsksNow, IsGateOf, IsWaveStop};
+ghost use Rattle.fw_rollout.specs.Plans.{with_meters};
+ghost use Rattle.fw_rollout.specs.Rollout.{MayRollOutOver, RollsOutOver, no_other};
+ghost use Rattle.fw_cli.specs.Waves.{AreWaves, AsksNow, IsGateOf, IsWaveStop, wave_lists};
 ghost use Rattle.fw_cli.specs.declared.waves.WaveStop.TheVariants as stopped;
 
 use fw_faults::Fault;
@@ -78,6 +80,8 @@ impl<'a> Waves<'a> {
         wave: u8,
     ) -> Result<(), Stop>
         ensures asks { OnOk result (meters_of daemon.new ≡ up_to_wave wave self.now.list.now) }
+        ensures led { (leader : Leader) → IsLed D.honest D.contents D.may_leave daemon.old leader
+            → OnOk result (IsLed D.honest D.contents D.may_leave daemon.new (with_meters (meters_of daemon.new) leader)) }
         ensures kept { kept_of daemon.new ≡ kept_of daemon.old }
         ensures counts { counted_of daemon.new ≡ counted_of daemon.old }
         ensures memory { IfErr result (λ stop. stop ≡ Stop.OutOfMemory) }
@@ -96,6 +100,8 @@ impl<'a> Waves<'a> {
         daemon: &mut HeadDaemon<D>,
     ) -> Result<Option<u8>, WaveStop>
         ensures asks { IfOk result (λ next. AsksNow self.now next daemon.new) }
+        ensures led { (leader : Leader) → IsLed D.honest D.contents D.may_leave daemon.old leader
+            → OnOk result (IsLed D.honest D.contents D.may_leave daemon.new (with_meters (meters_of daemon.new) leader)) }
         ensures kept { kept_of daemon.new ≡ kept_of daemon.old }
         ensures counts { counted_of daemon.new ≡ counted_of daemon.old }
         ensures stops { IfErr result (IsWaveStop self.now (book_of (kept_of daemon.new))) }
@@ -125,9 +131,8 @@ impl<'a> Waves<'a> {
         watch: &mut V,
     ) -> Result<(), Stop>
         requires asks { AsksNow self.now next daemon.old }
-        requires unknown { P.honest port.old ≡ false }
-        ensures honesty { P.honest port.new ≡ false }
-        ensures tells { TellsCounted P.tells port.old port.new (counted_of daemon.old) (counted_of daemon.new) }
+        requires begins { MayRollOutOver no_other P.Port D.JournalDevice port.old daemon.old }
+        ensures rolls { RollsOutOver no_other P.Port D.JournalDevice port.old daemon.old result port.new daemon.new }
     {
         serve_plan(rt, port, daemon, stays && next.is_none(), watch)
     }
@@ -146,11 +151,10 @@ impl<'a> Waves<'a> {
         stays: bool,
         watch: &mut V,
     ) -> Result<(), WaveStop>
-        requires unknown { P.honest port.old ≡ false }
-        ensures honesty { P.honest port.new ≡ false }
+        requires begins { MayRollOutOver (wave_lists self.now.list.now) P.Port D.JournalDevice port.old daemon.old }
 
-        // What was reported is what was counted as done and as given up.
-        ensures tells { TellsCounted P.tells port.old port.new (counted_of daemon.old) (counted_of daemon.new) }
+        // What it does over an honest port is a rollout that comes to ask the meters of its waves.
+        ensures rolls { RollsOutOver (wave_lists self.now.list.now) P.Port D.JournalDevice port.old daemon.old result port.new daemon.new }
 
         // It ends well only if no row of the list is live, and all that ended is on the device.
         ensures asks { OnOk result (meters_of daemon.new ≡ listed_in self.now.list.now) }

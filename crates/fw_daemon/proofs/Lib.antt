@@ -4,3 +4,6 @@ mod Hushing
 mod Steps
 mod Rounds
 mod Watching
+mod Tellings
+mod Switching
+mod Causes

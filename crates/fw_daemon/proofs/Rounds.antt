@@ -9,29 +9,31 @@ use Rattle.fw_daemon.specs.Acts.{Act}
 use Rattle.fw_daemon.specs.Daemon.{Daemon, Hears}
 use Rattle.fw_daemon.specs.Rounds.{IsRound, with_reply}
 use Rattle.fw_daemon.specs.declared.daemon.Heard.TheVariants as heard
+use Rattle.fw_daemon.specs.declared.event.MeterEvent.{MeterEvent}
 
-handled : (start now : Daemon) (before after : List Act) (from : SocketAddr) (datagram : List ℕ) (h : Handled) → after ≡ with_reply from datagram (reply_bytes h.reply) before
-    → Hears start from datagram (heard.Handled h) now → IsRound start before after h.activated now
-handled start now before after from datagram h is hears = inr (record {
+handled : (start now : Daemon) (before after : List Act) (from : SocketAddr) (datagram : List ℕ) (h : Handled) (told : Option MeterEvent)
+    → after ≡ with_reply from datagram (reply_bytes h.reply) before → Hears start from datagram (heard.Handled h told) now → IsRound start before after told now
+handled start now before after from datagram h told is hears = inr (record {
   from = from;
   datagram = datagram;
-  what = heard.Handled h;
+  what = heard.Handled h told;
   middle = now;
   hears = hears;
   acts = is;
-  activates = refl;
+  tells = refl;
   goes_on = refl;
 })
 
 -- it has no reply
-pub silent : (start now : Daemon) (before after : List Act) (from : SocketAddr) (datagram : List ℕ) (h : Handled) → after ≡ came from datagram ∷ before
-    → Hears start from datagram (heard.Handled h) now → reply_bytes h.reply ≡ None → IsRound start before after h.activated now
-silent start now before after from datagram h is hears none =
-    handled start now before after from datagram h (is ∙ ap (λ (r : Option (List ℕ)). with_reply from datagram r before) (sym none)) hears
+pub silent : (start now : Daemon) (before after : List Act) (from : SocketAddr) (datagram : List ℕ) (h : Handled) (told : Option MeterEvent) → after ≡ came from datagram ∷ before
+    → Hears start from datagram (heard.Handled h told) now → reply_bytes h.reply ≡ None → IsRound start before after told now
+silent start now before after from datagram h told is hears none =
+    handled start now before after from datagram h told (is ∙ ap (λ (r : Option (List ℕ)). with_reply from datagram r before) (sym none)) hears
 
 -- it has one, which is sent
-pub replied : (start now : Daemon) (before middle after : List Act) (from : SocketAddr) (datagram bytes : List ℕ) (h : Handled) → middle ≡ came from datagram ∷ before
-    → after ≡ sent from bytes ∷ middle → Hears start from datagram (heard.Handled h) now → reply_bytes h.reply ≡ Some bytes → IsRound start before after h.activated now
-replied start now before middle after from datagram bytes h is sends hears reply =
-    handled start now before after from datagram h
+pub replied : (start now : Daemon) (before middle after : List Act) (from : SocketAddr) (datagram bytes : List ℕ) (h : Handled) (told : Option MeterEvent)
+    → middle ≡ came from datagram ∷ before → after ≡ sent from bytes ∷ middle → Hears start from datagram (heard.Handled h told) now → reply_bytes h.reply ≡ Some bytes
+    → IsRound start before after told now
+replied start now before middle after from datagram bytes h told is sends hears reply =
+    handled start now before after from datagram h told
     (sends ∙ ap (λ (l : List Act). sent from bytes ∷ l) is ∙ ap (λ (r : Option (List ℕ)). with_reply from datagram r before) (sym reply)) hears

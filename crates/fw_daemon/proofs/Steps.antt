@@ -10,6 +10,7 @@ use Rattle.fw_daemon.specs.Acts.{Act}
 use Rattle.fw_daemon.specs.Daemon.{Daemon, Hears, IsServed, TakesTurn}
 use Rattle.fw_daemon.specs.Serving.{Serving, Serves, Takes}
 use Rattle.fw_daemon.specs.declared.daemon.Heard.TheVariants as heard
+use Rattle.fw_daemon.specs.declared.event.MeterEvent.{MeterEvent}
 use Rattle.fw_daemon.proofs.Going.{goes_on}
 
 -- nothing came
@@ -18,9 +19,9 @@ quiet_round start now before after is turn = record { done = quiet ∷ []; adds 
 
 -- ---- what came
 
-takes : (start now : Daemon) (from : SocketAddr) (datagram : List ℕ) (h : Handled) (reply : Option (List ℕ)) → Hears start from datagram (heard.Handled h) now → reply_bytes h.reply ≡ reply
-    → Takes start from datagram reply now
-takes start now from datagram h reply (may, served) is = inl (record {
+takes : (start now : Daemon) (from : SocketAddr) (datagram : List ℕ) (h : Handled) (told : Option MeterEvent) (reply : Option (List ℕ)) → Hears start from datagram (heard.Handled h told) now
+    → reply_bytes h.reply ≡ reply → Takes start from datagram reply now
+takes start now from datagram h told reply (may, served, tells) is = inl (record {
   may_ask = may;
   activated = h.activated;
   served = subst (λ (r : Option (List ℕ)). IsServed start datagram r h.activated now) is served;
@@ -31,10 +32,10 @@ came_round : (start now : Daemon) (before after : List Act) (from : SocketAddr) 
 came_round start now before after from datagram is takes = record { done = came from datagram ∷ []; adds = is; serving = (start, refl, takes) }
 
 -- it has no reply
-pub silent_round : (start now : Daemon) (before after : List Act) (from : SocketAddr) (datagram : List ℕ) (h : Handled) → after ≡ came from datagram ∷ before
-    → Hears start from datagram (heard.Handled h) now → reply_bytes h.reply ≡ None → Serves start before after now
-silent_round start now before after from datagram h is hears silent =
-    came_round start now before after from datagram is (takes start now from datagram h None hears silent)
+pub silent_round : (start now : Daemon) (before after : List Act) (from : SocketAddr) (datagram : List ℕ) (h : Handled) (told : Option MeterEvent) → after ≡ came from datagram ∷ before
+    → Hears start from datagram (heard.Handled h told) now → reply_bytes h.reply ≡ None → Serves start before after now
+silent_round start now before after from datagram h told is hears silent =
+    came_round start now before after from datagram is (takes start now from datagram h told None hears silent)
 
 -- there was no memory for it
 pub unserved_round : (start now : Daemon) (before after : List Act) (from : SocketAddr) (datagram : List ℕ) → after ≡ came from datagram ∷ before
@@ -53,16 +54,17 @@ strange_round start middle now before after from datagram is (not, counted) turn
     })))
 
 -- it has a reply, which is sent
-pub replies : (start now : Daemon) (from : SocketAddr) (datagram bytes : List ℕ) (h : Handled) → Hears start from datagram (heard.Handled h) now → reply_bytes h.reply ≡ Some bytes
-    → Serving start (sent from bytes ∷ came from datagram ∷ []) now
-replies start now from datagram bytes h hears is = (start, refl, refl, takes start now from datagram h (Some bytes) hears is)
+pub replies : (start now : Daemon) (from : SocketAddr) (datagram bytes : List ℕ) (h : Handled) (told : Option MeterEvent) → Hears start from datagram (heard.Handled h told) now
+    → reply_bytes h.reply ≡ Some bytes → Serving start (sent from bytes ∷ came from datagram ∷ []) now
+replies start now from datagram bytes h told hears is = (start, refl, refl, takes start now from datagram h told (Some bytes) hears is)
 
-pub replied_round : (start now : Daemon) (before middle after : List Act) (from : SocketAddr) (datagram bytes : List ℕ) (h : Handled) → middle ≡ came from datagram ∷ before
-    → after ≡ sent from bytes ∷ middle → Hears start from datagram (heard.Handled h) now → reply_bytes h.reply ≡ Some bytes → Serves start before after now
-replied_round start now before middle after from datagram bytes h is sends hears reply = record {
+pub replied_round : (start now : Daemon) (before middle after : List Act) (from : SocketAddr) (datagram bytes : List ℕ) (h : Handled) (told : Option MeterEvent)
+    → middle ≡ came from datagram ∷ before → after ≡ sent from bytes ∷ middle → Hears start from datagram (heard.Handled h told) now → reply_bytes h.reply ≡ Some bytes
+    → Serves start before after now
+replied_round start now before middle after from datagram bytes h told is sends hears reply = record {
   done = sent from bytes ∷ came from datagram ∷ [];
   adds = sends ∙ ap (λ (l : List Act). sent from bytes ∷ l) is;
-  serving = replies start now from datagram bytes h hears reply;
+  serving = replies start now from datagram bytes h told hears reply;
 }
 
 -- ---- round after round

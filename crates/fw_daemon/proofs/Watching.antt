@@ -2,42 +2,42 @@
 use Rattle.std.proofs.Common.{◌≡◌, ◌++◌, List, [], ◌∷◌, inr, refl, sym, subst, append_assoc, append-nil}
 use Rattle.std.specs.declared.net.socket_addr.SocketAddr.{SocketAddr}
 use Rattle.std.specs.Prelude.{ℕ, Option}
-use Rattle.fw_names.specs.Name.{Name}
 use Rattle.fw_meter.specs.declared.meter.Handled.{Handled}
 use Rattle.fw_daemon.specs.Daemon.{Daemon, Hears}
-use Rattle.fw_daemon.specs.Rounds.{GoesRound, GoesRounds, IsWatched, TellsSwitches, named, switches_in}
+use Rattle.fw_daemon.specs.Rounds.{GoesRound, GoesRounds, IsWatched, TellsEvents, events_in, listed}
 use Rattle.fw_daemon.specs.declared.daemon.Heard.TheVariants as heard
+use Rattle.fw_daemon.specs.declared.event.MeterEvent.{MeterEvent}
 
 -- a datagram was handled
-pub handled : (old new : Daemon) (from : SocketAddr) (datagram : List ℕ) (h : Handled) → Hears old from datagram (heard.Handled h) new → GoesRound old h.activated new
-handled old new from datagram h hears = inr (record {
+pub handled : (old new : Daemon) (from : SocketAddr) (datagram : List ℕ) (h : Handled) (told : Option MeterEvent) → Hears old from datagram (heard.Handled h told) new → GoesRound old told new
+handled old new from datagram h told hears = inr (record {
   from = from;
   datagram = datagram;
-  what = heard.Handled h;
+  what = heard.Handled h told;
   middle = new;
   hears = hears;
-  activates = refl;
+  tells = refl;
   goes_on = refl;
 })
 
-module _ {W : Type 0} (tells : W → List Name → W → Type 0) where
+module _ {W : Type 0} (tells : W → List MeterEvent → W → Type 0) where
   -- no round
   pub watched_none : (start : Daemon) (w : W) → IsWatched tells start w start w
   watched_none start w = record {
     rounds = [];
     made = refl;
-    told = λ first before was. subst (λ (l : List Name). tells first l w) (sym (append-nil before)) was;
+    told = λ first before was. subst (λ (l : List MeterEvent). tells first l w) (sym (append-nil before)) was;
   }
 
   -- one round more
-  pub watched_on : (start middle now : Daemon) (old seen new : W) (activated : Option Name) → IsWatched tells start old middle seen → GoesRound middle activated now
-      → TellsSwitches tells (named activated) seen new → IsWatched tells start old now new
-  watched_on start middle now old seen new activated was goes told = record {
-    rounds = activated ∷ was.rounds;
+  pub watched_on : (start middle now : Daemon) (old seen new : W) (event : Option MeterEvent) → IsWatched tells start old middle seen → GoesRound middle event now
+      → TellsEvents tells (listed event) seen new → IsWatched tells start old now new
+  watched_on start middle now old seen new event was goes told = record {
+    rounds = event ∷ was.rounds;
     made = (middle, was.made, goes);
     told = λ first before is.
-        subst (λ (l : List Name). tells first l new) (append_assoc before (switches_in was.rounds) (named activated))
-        (told first (before ++ switches_in was.rounds) (was.told first before is));
+        subst (λ (l : List MeterEvent). tells first l new) (append_assoc before (events_in was.rounds) (listed event))
+        (told first (before ++ events_in was.rounds) (was.told first before is));
   }
 
   -- nothing was done

@@ -3,9 +3,11 @@ use Rattle.std.specs.Prelude.{◌≡◌, ◌⊎◌, ◌+◌, ◌-◌, ◌^◌, �
 use Rattle.std.specs.declared.net.socket_addr.SocketAddr.{SocketAddr}
 use Rattle.fw_names.specs.Name.{Name}
 use Rattle.fw_store.specs.declared.fuse.Fuse.{Fuse}
+use Rattle.fw_image.specs.Meter.{status_of}
 use Rattle.fw_image.specs.State.{State, Counts, Follows, Turns}
 use Rattle.fw_meter.specs.Handling.{Handles, MayWantMemory, reply_bytes}
 use Rattle.fw_meter.specs.Stopping.{CallsStore, StopsAfter}
+use Rattle.fw_daemon.specs.Events.{IsEvent}
 use Rattle.fw_daemon.specs.declared.daemon.Heard.{Heard}
 use Rattle.fw_daemon.specs.declared.daemon.Heard.TheVariants as heard
 use Rattle.fw_daemon.specs.declared.daemon.MeterDaemon.{MeterDaemon}
@@ -42,10 +44,12 @@ pub record IsServed (old : Daemon) (datagram : List ℕ) (reply : Option (List �
   pub answers : Answers old.state datagram reply activated new.state
   pub others : new ≡ record old { state = new.state }
 
--- What comes of a datagram from an address. One that may ask is served, or there is no memory for it. A stranger's is counted, and
--- changes nothing else.
+-- What comes of a datagram from an address. One that may ask is served, with what there is to tell of it, or there is no memory for it. A
+-- stranger's is counted, and changes nothing else.
 abbrev pub Hears : Daemon → SocketAddr → List ℕ → Heard → Daemon → Type 0
-Hears old from datagram (heard.Handled h) new = MayAsk old.heads from × IsServed old datagram (reply_bytes h.reply) h.activated new
+Hears old from datagram (heard.Handled h told) new =
+    MayAsk old.heads from × IsServed old datagram (reply_bytes h.reply) h.activated new
+    × IsEvent (status_of old.state.meter.phase) datagram (reply_bytes h.reply) h.activated new.state.meter told
 Hears old from datagram heard.Stranger new = (MayAsk old.heads from → ⊥) × (new ≡ record old { strangers = one_more old.strangers })
 Hears old from datagram heard.OutOfMemory new =
     MayAsk old.heads from × MayWantMemory datagram × (new ≡ record old { unserved = one_more old.unserved })

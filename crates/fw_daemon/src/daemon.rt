@@ -1,11 +1,16 @@
 //! A meter that some addresses may ask.
 
-ghost use Rattle.std.specs.Prelude.{◌≡◌, ◌↔◌, IsTrue, Contains, [], true};
+ghost use Rattle.std.specs.Prelude.{◌≡◌, ◌↔◌, IfOk, IsTrue, Contains, OnErr, [], true};
 ghost use Rattle.fw_image.specs.Meter.{status_of};
 ghost use Rattle.fw_image.specs.declared.status.TransferStatus.TheVariants as status;
-ghost use Rattle.fw_daemon.specs.Daemon.{Hears, MayAsk, TakesTurn, daemon_of, one_more};
+ghost use Rattle.fw_meter.specs.Handling.{MayWantMemory, reply_bytes};
+ghost use Rattle.fw_daemon.specs.Daemon.{Hears, IsServed, MayAsk, TakesTurn, daemon_of, one_more};
+ghost use Rattle.fw_daemon.specs.Events.{IsEvent};
+ghost use Rattle.fw_daemon.specs.Rounds.{told_of_turn};
 
-use fw_image::{MeterView, TransferStatus};
+use crate::event::MeterEvent;
+use crate::telling::{event_of, request_in, turn_event};
+use fw_image::TransferStatus;
 use fw_meter::{Handled, MeterCore, OutOfMemory};
 use fw_store::ImageStore;
 use std::alloc::Global;
@@ -23,8 +28,8 @@ pub struct Dropped {
 /// What comes of a datagram.
 #[derive(Drop)]
 pub enum Heard {
-    /// The meter handled it. The reply goes to where it came from.
-    Handled(Handled),
+    /// The meter handled it, with what there is to tell of that. The reply goes to where it came from.
+    Handled(Handled, Option<MeterEvent>),
     /// It is dropped, since it came from an address that may not ask.
     Stranger,
     /// It is dropped, since memory was refused.
@@ -62,8 +67,8 @@ impl<S: ImageStore + Drop> MeterDaemon<S> {
             count(&mut self.dropped.strangers);
             return Heard::Stranger;
         }
-        match self.meter.handle(alloc, datagram) {
-            Ok(handled) => Heard::Handled(handled),
+        match self.handle(alloc, datagram) {
+            Ok((handled, event)) => Heard::Handled(handled, event),
             Err(OutOfMemory) => {
                 count(&mut self.dropped.unserved);
                 Heard::OutOfMemory
@@ -71,11 +76,14 @@ impl<S: ImageStore + Drop> MeterDaemon<S> {
         }
     }
 
-    /// A turn of the meter, as `MeterCore::turn`.
-    pub fn turn(&mut self)
-        ensures { TakesTurn (daemon_of self.old) (daemon_of self.new) }
+    /// A turn of the meter, as `MeterCore::turn`. It returns what there is to tell of it.
+    pub fn turn(&mut self) -> Option<MeterEvent>
+        ensures turns { TakesTurn (daemon_of self.old) (daemon_of self.new) }
+        ensures told { result ≡ told_of_turn (daemon_of self.old) (daemon_of self.new) }
     {
+        let before = self.meter.status();
         self.meter.turn();
+        turn_event(before, &self.meter)
     }
 
     /// Whether an image is verified, with which a turn goes on.
@@ -103,6 +111,26 @@ impl<S: ImageStore + Drop> MeterDaemon<S> {
             dropped: _,
         } = self;
         core
+    }
+
+    /// The meter handles a datagram. What the datagram asks is read before, so that no memory is wanted afterwards for what there is to tell.
+    fn handle(
+        &mut self,
+        alloc: Global,
+        datagram: &[u8],
+    ) -> Result<(Handled, Option<MeterEvent>), OutOfMemory>
+        ensures served { IfOk result (λ x. IsServed (daemon_of self.old) datagram.now (reply_bytes x.0.reply) x.0.activated
+            (daemon_of self.new)) }
+        ensures told { IfOk result (λ x. IsEvent (status_of (daemon_of self.old).state.meter.phase) datagram.now (reply_bytes x.0.reply)
+            x.0.activated (daemon_of self.new).state.meter x.1) }
+        ensures err { OnErr result (daemon_of self.new ≡ daemon_of self.old) }
+        ensures memory { OnErr result (MayWantMemory datagram.now) }
+    {
+        let request = request_in(alloc, datagram)?;
+        let before = self.meter.status();
+        let handled = self.meter.handle(alloc, datagram)?;
+        let event = event_of(alloc, before, &request, &handled, &self.meter);
+        Ok((handled, event))
     }
 
     /// Whether an address may ask.

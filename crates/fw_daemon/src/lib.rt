@@ -2,10 +2,13 @@
 #![tactic(auto)]
 
 mod daemon;
+mod event;
 pub mod laws;
 mod list;
 mod serving;
+mod telling;
 
 pub use daemon::{Dropped, Heard, MeterDaemon};
+pub use event::{Cause, MeterEvent, Work};
 pub use list::serve_list;
 pub use serving::{Watch, serve, step};

@@ -9,7 +9,7 @@ use Rattle.fw_rollout.specs.declared.ended.Ended.{Ended}
 use Rattle.fw_world.specs.Step.{replies}
 use Rattle.fw_world.specs.World.{Datagram}
 use Rattle.fw_field.specs.Field.{Field}
-use Rattle.fw_field.specs.Moves.{Move, round, kill_meter, step, open_campaign, cancel_campaign, give_up, kill_head, MovesLead, Goes, to_meter, to_head}
+use Rattle.fw_field.specs.Moves.{Move, round, kill_meter, step, open_campaign, cancel_campaign, give_up, ask_others, kill_head, MovesLead, Goes, to_meter, to_head}
 use Rattle.fw_field.specs.Laws.{AfterMoves, AnswersCome, LeadingIsMoves, ReportsAreTrue, SentComes, SentStays, ToldIsTrue, moves_of}
 use Rattle.fw_field.proofs.Serving.{first_is, later, none_there, one_there}
 
@@ -30,6 +30,7 @@ stays_by addresses old new (step number made) d t has = more_sent old new d t.ou
 stays_by addresses old new (open_campaign campaign release image meters) d t has = same_sent old new d (ap (λ (f : Field). f.sent) t.new_is) has
 stays_by addresses old new (cancel_campaign campaign) d t has = same_sent old new d (ap (λ (f : Field). f.sent) t.new_is) has
 stays_by addresses old new (give_up number meter) d t has = same_sent old new d (ap (λ (f : Field). f.sent) t.new_is) has
+stays_by addresses old new (ask_others number meters) d t has = same_sent old new d (ap (λ (f : Field). f.sent) t.new_is) has
 stays_by addresses old new (kill_head number) d t has = same_sent old new d (ap (λ (f : Field). f.sent) t.new_is) has
 
 stays : (addresses : ℕ → List SocketAddr) (f new : Field) (moves : List Move) (d : Datagram) → MovesLead addresses f moves new → Contains f.sent d → Contains new.sent d
@@ -59,7 +60,7 @@ answers_come law addresses f new moves number head to from leader acts bytes ans
 
 -- ---- what a head end reports is true
 
-moves_append : (addresses : ℕ → List SocketAddr) (old mid new : Field) (first second : List Move) → MovesLead addresses old first mid → MovesLead addresses mid second new
+pub moves_append : (addresses : ℕ → List SocketAddr) (old mid new : Field) (first second : List Move) → MovesLead addresses old first mid → MovesLead addresses mid second new
     → MovesLead addresses old (first ++ second) new
 moves_append addresses old mid new [] second same more = subst (λ (f : Field). MovesLead addresses f second new) same more
 moves_append addresses old mid new (move ∷ moves) second (next, goes, rest) more = (next, goes, moves_append addresses next mid new moves second rest more)
@@ -86,7 +87,7 @@ or_later act made steps ended none rest has = elim (Contains-append_cases (act �
 ]
 
 -- what was reported was so by a step
-tells_in : (steps : List Step) (ended : Ended) → Contains (acts_of steps) (told ended) → Contains steps (tells ended)
+pub tells_in : (steps : List Step) (ended : Ended) → Contains (acts_of steps) (told ended) → Contains steps (tells ended)
 tells_in [] ended has = absurd (none_there (told ended) has)
 tells_in (hears from datagram ∷ steps) ended has = or_later (came from datagram) (hears from datagram) steps ended tt (λ h. tells_in steps ended h) has
 tells_in (idles ∷ steps) ended has = or_later quiet idles steps ended tt (λ h. tells_in steps ended h) has

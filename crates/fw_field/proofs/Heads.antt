@@ -23,13 +23,15 @@ use Rattle.fw_head.specs.Head.{AreRowsOf, Head, HeadHears, IsHead, IsOfferedIn, 
 use Rattle.fw_head.specs.Laws.{HeadsStay, ReportedByClaim}
 use Rattle.fw_rollout.specs.Leading.{Leader, Step, hears, idles, ticks, sends, saves, tells, Steps, HearsMeter, state_after}
 use Rattle.fw_rollout.specs.declared.ended.Ended.{Ended}
+use Rattle.fw_rollout.specs.declared.link.Listed.{Listed}
+use Rattle.fw_rollout.specs.Plans.{with_meters}
 use Rattle.fw_world.specs.Laws.{StateStepsAsWorld}
 use Rattle.fw_world.specs.State.{is_done}
 use Rattle.fw_world.specs.Step as worlds
 use Rattle.fw_world.specs.Step.{Event, MayAsk, Permits, deliver, restart_head, tick}
 use Rattle.fw_world.specs.World.{Datagram, Offers, World, same_campaign, with_done, with_offer}
 use Rattle.fw_field.specs.Field.{Field}
-use Rattle.fw_field.specs.Moves.{CancelsAt, Comes, GivesRowUp, GoesOut, HeadIsKilledAt, OpensAt, StepsAt, WasAnswered, to_head, to_meter, told_by}
+use Rattle.fw_field.specs.Moves.{AsksOthers, CancelsAt, Comes, GivesRowUp, GoesOut, HeadIsKilledAt, OpensAt, StepsAt, WasAnswered, to_head, to_meter, told_by}
 use Rattle.fw_field.proofs.Maps.{itself, mark_follows, mark_keeps, none_some, number_of}
 use Rattle.fw_field.proofs.Mini.{Marked, Opened, Same, cancelling, hearing, mark_of, marks_in, opening, same_book}
 use Rattle.fw_field.proofs.GivenUp.{giving_up}
@@ -393,6 +395,17 @@ module _ (stay_law : HeadsStay) (steps : StateStepsAsWorld) (old new : Field) (w
       grows : Grows number t.before t.after
       grows = heard_grows old w number s sound t.before t.after t.there (ap (λ (l : Leader). l.synced) t.waits) (ap (λ (x : Contents). x.head) book) same.images
           (λ c m at e. same.done c m at ∙ e)
+
+  -- it asks other meters: its books and its rows are the same
+  pub others_go : (number : ℕ) (meters : List Listed) → AsksOthers old number meters new → Goes w new
+  others_go number meters t =
+      let after : Leader = with_meters meters t.before in
+      subst (λ (f : Field). Goes w f) (sym t.new_is)
+      (goes old w number s sound t.before after t.there old.sent old.told
+      (same_head old w number s sound t.before after t.there refl)
+      (stays_by old w number s sound t.before after t.there old.sent old.told s.sent (same_book number t.before.head t.before.head refl))
+      (grows_by number t.before after (kept_before old w number s sound t.before after t.there) refl refl)
+      (no_more old w number s sound t.before after t.there old.told refl))
 
   pub open_goes : (campaign : Campaign) (release : ℕ) (image meters : List ℕ) → OpensAt old campaign release image meters new → Goes w new
   open_goes campaign release image meters t = subst G (sym t.new_is) (goes old w number s sound t.before t.after t.there old.sent old.told is follows grows (no_more old w number s sound t.before t.after t.there old.told refl))

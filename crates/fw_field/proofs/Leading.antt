@@ -14,7 +14,7 @@ use Rattle.fw_field.specs.Laws.{CameToHead, DoesAll, LeadingIsMoves, moves_of}
 use Rattle.fw_field.proofs.Maps.{itself}
 use Rattle.fw_field.proofs.Serving.{move_on, first_is, later, none_there, one_there}
 
-abbrev Goes_to : Leader → SocketAddr × List ℕ → Type 0
+abbrev pub Goes_to : Leader → SocketAddr × List ℕ → Type 0
 Goes_to start going = (meter : ℕ) × IsListed start meter going.0
 
 listed_all : (start : Leader) (meter : ℕ) (to : SocketAddr) → IsListed start meter to → (xs : List (List ℕ)) → All (Goes_to start) (map (λ (bytes : List ℕ). (to, bytes)) xs)
@@ -25,7 +25,7 @@ relisted : (a b : Leader) (meter : ℕ) (to : SocketAddr) → b.meters ≡ a.met
 relisted a b meter to same listed = subst (λ (xs : List Listed). Contains xs (record { meter = meter; address = to })) (sym same) listed
 
 -- what a step sends, and what is about to be sent after it
-record Out (number : ℕ) (start before now : Leader) (made : Step) : Type 0 where
+pub record Out (number : ℕ) (start before now : Leader) (made : Step) : Type 0 where
   pub out : List Datagram
   pub goes_out : GoesOut number before made out
   pub going : All (Goes_to start) now.going
@@ -35,7 +35,7 @@ module _ (number : ℕ) (start before now : Leader) (same : before.meters ≡ st
   stay : now.going ≡ before.going → All (Goes_to start) now.going
   stay e = subst (λ (xs : List (SocketAddr × List ℕ)). All (Goes_to start) xs) (sym e) going
 
-  out_of : (made : Step) → Steps before made now → Out number start before now made
+  pub out_of : (made : Step) → Steps before made now → Out number start before now made
   out_of (hears from datagram) (inl h) = record { out = []; goes_out = refl; going = stay (ap (λ (l : Leader). l.going) h.others); meters = ap (λ (l : Leader). l.meters) h.others }
   out_of (hears from datagram) (inr (inl h)) = record { out = []; goes_out = refl; going = stay (ap (λ (l : Leader). l.going) h.same); meters = ap (λ (l : Leader). l.meters) h.same }
   out_of (hears from datagram) (inr (inr h)) = record { out = []; goes_out = refl; going = stay (ap (λ (l : Leader). l.going) h.same); meters = ap (λ (l : Leader). l.meters) h.same }
@@ -68,6 +68,11 @@ record Led (addresses : ℕ → List SocketAddr) (f : Field) (number : ℕ) (sta
   pub meters : now.meters ≡ start.meters
   pub going : All (Goes_to start) now.going
 
+-- a step that is a send sends on the link of a meter with that address
+pub sends_by : (number : ℕ) (before : Leader) (out : List Datagram) (made : Step) (to : SocketAddr) (bytes : List ℕ) → GoesOut number before made out → made ≡ sends to bytes
+    → (meter : ℕ) × IsListed before meter to × (out ≡ to_meter number meter bytes ∷ [])
+sends_by number before out made to bytes goes same = subst (λ (m : Step). GoesOut number before m out) same goes
+
 module _ (addresses : ℕ → List SocketAddr) (f : Field) (number : ℕ) (start : Leader) where
   from_net : (g : Field) (before : Leader) (made : Step) → before.meters ≡ start.meters → ((d : Datagram) → Contains f.sent d → Contains g.sent d)
       → ((from : SocketAddr) (datagram : List ℕ) → made ≡ hears from datagram → WasAnswered f number start from datagram) → Comes g number before made
@@ -79,15 +84,11 @@ module _ (addresses : ℕ → List SocketAddr) (f : Field) (number : ℕ) (start
   from_net g before saves same more was = tt
   from_net g before (tells ended) same more was = tt
 
-  sends_it : (before : Leader) (out : List Datagram) (made : Step) (to : SocketAddr) (bytes : List ℕ) → GoesOut number before made out → made ≡ sends to bytes
-      → (meter : ℕ) × IsListed before meter to × (out ≡ to_meter number meter bytes ∷ [])
-  sends_it before out made to bytes goes same = subst (λ (m : Step). GoesOut number before m out) same goes
-
   does_more : (old : Field) (before : Leader) (new : Field) (made : Step) (steps : List Step) (out : List Datagram) → before.meters ≡ start.meters → GoesOut number before made out
       → new.sent ≡ old.sent ++ out → new.told ≡ old.told ++ told_by made → DoesAll number start steps old → DoesAll number start (made ∷ steps) new
   does_more old before new made steps out same goes sent_is told_is does = record {
     sent_all = λ to bytes has. elim (Contains-append_cases (made ∷ []) steps (sends to bytes) has) [
-      | inl here ↦ (let it = sends_it before out made to bytes goes (one_there made (sends to bytes) here) in (
+      | inl here ↦ (let it = sends_by number before out made to bytes goes (one_there made (sends to bytes) here) in (
         it.0,
         relisted before start it.0 to (sym same) it.1,
         subst (λ (xs : List Datagram). Contains xs (to_meter number it.0 bytes)) (sym sent_is)

@@ -8,3 +8,4 @@ mod Runs
 mod Serving
 mod Leading
 mod Coming
+mod Rollouts

@@ -22,7 +22,7 @@ use Rattle.fw_world.specs.State.{is_done}
 use Rattle.fw_world.specs.Step.{Event, IsOpening, Run}
 use Rattle.fw_world.specs.World.{World}
 use Rattle.fw_field.specs.Field.{Field, IsBeginning, done_by, is_saved, offered_by, saved_by, world_of}
-use Rattle.fw_field.specs.Moves.{Move, round, kill_meter, step, open_campaign, cancel_campaign, give_up, kill_head, MovesLead, Goes as Move_goes}
+use Rattle.fw_field.specs.Moves.{Move, round, kill_meter, step, open_campaign, cancel_campaign, give_up, ask_others, kill_head, MovesLead, Goes as Move_goes}
 use Rattle.fw_field.specs.Laws.{AfterMoves, IsRun, ReportsAreKept, ReportsAreTrue}
 use Rattle.fw_field.proofs.Maps.{funext, itself, none_some, run_append, same_world, some_is}
 use Rattle.fw_field.proofs.Following.{Goes, IsKept, IsSound, Simulates}
@@ -113,6 +113,7 @@ module _ (faultless : Faultless) (turn_law : TurnFaultIsStop) (follow : StatesFo
   move_goes addresses old new (open_campaign campaign release image meters) w s sound m = heads.open_goes stay_law steps old new w s sound campaign release image meters m
   move_goes addresses old new (cancel_campaign campaign) w s sound m = heads.cancel_goes stay_law steps old new w s sound campaign m
   move_goes addresses old new (give_up number meter) w s sound m = heads.give_up_goes stay_law steps old new w s sound follow kept number meter m
+  move_goes addresses old new (ask_others number meters) w s sound m = heads.others_go stay_law steps old new w s sound number meters m
   move_goes addresses old new (kill_head number) w s sound m = heads.kill_goes stay_law steps old new w s sound number m
 
   moves_go : (addresses : ℕ → List SocketAddr) (old new : Field) (moves : List Move) (w : World) → Simulates old w → IsSound old → MovesLead addresses old moves new → Goes w new

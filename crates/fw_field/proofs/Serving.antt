@@ -8,10 +8,13 @@ use Rattle.fw_meter.specs.Handling.{reply_bytes}
 use Rattle.fw_port.specs.Acts.{came, quiet, sent, told}
 use Rattle.fw_daemon.specs.Acts.{Act}
 use Rattle.fw_daemon.specs.Daemon.{Daemon, Hears, MayAsk, TakesTurn}
+use Rattle.fw_daemon.specs.Events.{switched_by}
+use Rattle.fw_daemon.specs.Laws.{SwitchesAreTold}
 use Rattle.fw_daemon.specs.Rounds.{GoesOnAfter, activated_by, reply_of, with_reply}
 use Rattle.fw_daemon.specs.Serving.{Serving, Takes}
 use Rattle.fw_daemon.specs.declared.daemon.Heard.{Heard}
 use Rattle.fw_daemon.specs.declared.daemon.Heard.TheVariants as heard
+use Rattle.fw_daemon.specs.declared.event.MeterEvent.{MeterEvent}
 use Rattle.fw_world.specs.Step.{activated, replies}
 use Rattle.fw_world.specs.World.{Datagram}
 use Rattle.fw_field.specs.Field.{Field, with_daemon}
@@ -21,16 +24,20 @@ use Rattle.fw_field.proofs.Maps.{itself, none_some}
 
 -- ---- a round
 
-pub rounds_are_taken : RoundsAreTaken
-rounds_are_taken before after earlier later activates (inl turn) = inl turn
-rounds_are_taken before after earlier later activates (inr x) =
-    inr (x.from, x.datagram, reply_of x.what, x.acts, subst P (sym x.activates) (go x.what x.middle x.hears x.goes_on))
+pub rounds_are_taken : SwitchesAreTold → RoundsAreTaken
+rounds_are_taken switches before after earlier later event (inl (quiet_is, tells, turn)) =
+    inl (quiet_is, ap (λ (o : Option MeterEvent). switched_by o) tells ∙ switches.turn before after, turn)
+rounds_are_taken switches before after earlier later event (inr x) =
+    inr (x.from, x.datagram, reply_of x.what, x.acts, subst P (sym same_switch) (go x.what x.middle x.hears x.goes_on))
   where
+    same_switch : switched_by event ≡ activated_by x.what
+    same_switch = ap (λ (o : Option MeterEvent). switched_by o) x.tells ∙ switches.datagram before x.middle after x.from x.datagram x.what x.hears
+
     P : Option Name → Type 0
     P name = TakesAs before x.from x.datagram (reply_of x.what) name after
 
     go : (what : Heard) (middle : Daemon) → Hears before x.from x.datagram what middle → GoesOnAfter what middle after → TakesAs before x.from x.datagram (reply_of what) (activated_by what) after
-    go (heard.Handled h) middle (may, served) same =
+    go (heard.Handled h event') middle (may, served, tells) same =
         let Q : Daemon → Type 0 = λ d. TakesAs before x.from x.datagram (reply_bytes h.reply) h.activated d in
         subst Q (sym same) (inl (may, served))
     go heard.Stranger middle (not, counted) turn =

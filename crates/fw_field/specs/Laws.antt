@@ -1,13 +1,14 @@
 -- Public vocabulary: the laws of a field. They speak of definitions alone.
 use Rattle.std.specs.Prelude.{◌≡◌, ◌⊎◌, ℕ, List, [], ◌∷◌, ◌++◌, true, Contains, Option, Some, None}
 use Rattle.std.specs.declared.net.socket_addr.SocketAddr.{SocketAddr}
-use Rattle.fw_names.specs.Name.{Name}
 use Rattle.fw_ledger.specs.declared.record.Ending.TheVariants.{Done}
 use Rattle.fw_port.specs.Acts.{came, quiet, sent, told}
 use Rattle.fw_daemon.specs.Acts.{Act}
 use Rattle.fw_daemon.specs.Daemon.{Daemon, MayAsk, TakesTurn}
+use Rattle.fw_daemon.specs.Events.{switched_by}
 use Rattle.fw_daemon.specs.Rounds.{IsRound, with_reply}
 use Rattle.fw_daemon.specs.Serving.{Serving}
+use Rattle.fw_daemon.specs.declared.event.MeterEvent.{MeterEvent}
 use Rattle.fw_rollout.specs.Leading.{Leader, Leading, Step, hears, sends, tells, acts_of, IsListed}
 use Rattle.fw_rollout.specs.declared.ended.Ended.{Ended}
 use Rattle.fw_world.specs.Headline.{IsDoneSafely}
@@ -39,13 +40,13 @@ ReportsAreTrue f = (ended : Ended) → Contains f.told ended → ended.ending �
 
 -- ---- what the loops of daemons do, as moves
 
--- a round is a turn, or a datagram that was taken, with the name of the image that the meter switched to in it
+-- a round is a turn, or a datagram that was taken, and the image is told that the meter switched to by it
 abbrev pub RoundsAreTaken : Type 0
 RoundsAreTaken =
-    (before after : Daemon) (earlier later : List Act) (activates : Option Name) → IsRound before earlier later activates after
-    → ((later ≡ quiet ∷ earlier) × (activates ≡ None) × TakesTurn before after)
+    (before after : Daemon) (earlier later : List Act) (event : Option MeterEvent) → IsRound before earlier later event after
+    → ((later ≡ quiet ∷ earlier) × (switched_by event ≡ None) × TakesTurn before after)
     ⊎ ((from : SocketAddr) × (datagram : List ℕ) × (reply : Option (List ℕ)) × (later ≡ with_reply from datagram reply earlier)
-    × TakesAs before from datagram reply activates after)
+    × TakesAs before from datagram reply (switched_by event) after)
 
 -- each datagram that came to the daemon of a meter from an address that may ask was sent to it in a field
 abbrev pub CameToMeter : (ℕ → List SocketAddr) → Field → ℕ → List SocketAddr → List Act → Type 0

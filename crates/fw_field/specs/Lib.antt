@@ -2,3 +2,4 @@
 pub mod Field
 pub mod Moves
 pub mod Laws
+pub mod Rollouts

@@ -18,6 +18,8 @@ use Rattle.fw_daemon.specs.Serving.{IsStrange, IsUnserved}
 use Rattle.fw_rollout.specs.Daemon.{new_leader}
 use Rattle.fw_rollout.specs.Leading.{Leader, Step, hears, sends, tells, ended_by, IsListed, Steps}
 use Rattle.fw_rollout.specs.declared.ended.Ended.{Ended}
+use Rattle.fw_rollout.specs.declared.link.Listed.{Listed}
+use Rattle.fw_rollout.specs.Plans.{with_meters}
 use Rattle.fw_world.specs.declared.datagram.Direction.TheVariants.{ToMeter, ToHead}
 use Rattle.fw_world.specs.Step.{activated, replies}
 use Rattle.fw_world.specs.World.{Datagram}
@@ -35,6 +37,8 @@ pub data Move : Type 0 where
   cancel_campaign : Campaign → Move
   -- a head end gives up the row of a meter
   give_up : ℕ → ℕ → Move
+  -- a head end comes to ask other meters
+  ask_others : ℕ → List Listed → Move
   -- a head end is killed, and started again
   kill_head : ℕ → Move
 
@@ -201,6 +205,13 @@ pub record GivesRowUp (old : Field) (number meter : ℕ) (new : Field) : Type 0 
   pub waits : after ≡ record before { head = after.head; unsaved = before.unsaved ++ ended_by (Failed given.campaign meter) end }
   pub new_is : new ≡ with_leader old number after
 
+-- A head end comes to ask the meters of another list, once all that was to be sent is sent: of its books and its rows nothing changes.
+pub record AsksOthers (old : Field) (number : ℕ) (meters : List Listed) (new : Field) : Type 0 where
+  pub before : Leader
+  pub there : old.heads number ≡ Some before
+  pub sent_all : before.going ≡ []
+  pub new_is : new ≡ with_leader old number (with_meters meters before)
+
 -- A head end is killed, and started again with the book that is read back from the device. That is the last one that was synced, or, where
 -- it was killed while it put the marks that wait on the device, the one in memory.
 pub record HeadIsKilledAt (old : Field) (number : ℕ) (new : Field) : Type 0 where
@@ -223,6 +234,7 @@ Goes addresses old (step number made) new = StepsAt old number made new
 Goes addresses old (open_campaign campaign release image meters) new = OpensAt old campaign release image meters new
 Goes addresses old (cancel_campaign campaign) new = CancelsAt old campaign new
 Goes addresses old (give_up number meter) new = GivesRowUp old number meter new
+Goes addresses old (ask_others number meters) new = AsksOthers old number meters new
 Goes addresses old (kill_head number) new = HeadIsKilledAt old number new
 
 -- These moves lead from a field to another one, each from the field that the one before it led to. Head ends have

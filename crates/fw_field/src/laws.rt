@@ -23,6 +23,8 @@ ghost use Rattle.fw_field.specs.Laws.{
   SentComes,
   AnswersCome,
 };
+ghost use Rattle.fw_field.specs.Rollouts.{RolloutIsMoves, RolloutToldIsTrue, any_list};
+ghost use Rattle.fw_rollout.specs.Rollout.{no_other};
 
 /// Whatever daemons did, and however often they were killed, is a run of the world, which leads to the world that the field is: with the
 /// meters as they are, what the books in memory offer, and the rows that are done there. Where a head end was started again with a book
@@ -73,7 +75,9 @@ pub fn moves_are_safe()
 /// A round of the daemon of a meter is a turn, or a datagram that was taken: what a move of a field is made of.
 pub fn rounds_are_taken()
     ensures { RoundsAreTaken }
-{}
+{
+    fw_daemon::laws::switches_are_told();
+}
 
 /// Whatever the daemon of a meter does that is in a field is rounds of it, where each datagram that it heeded was sent to it there. In the
 /// field that they lead to, each reply was sent.
@@ -93,6 +97,21 @@ pub fn told_is_true()
     ensures { ToldIsTrue }
 {
     leading_is_moves();
+    moves_are_safe();
+}
+
+/// Whatever a head end does in a rollout, which gives up silent meters, is moves of the field that it is in, where each datagram that it
+/// heard as that of a meter was sent to it by that meter there; of one list, and of lists that follow each other, as from wave to wave.
+pub fn rollout_is_moves()
+    ensures one { RolloutIsMoves no_other }
+    ensures any { RolloutIsMoves any_list }
+{}
+
+/// What a head end reports as done in a rollout is done safely in the field that the rollout leads to.
+pub fn rollout_told_is_true()
+    ensures one { RolloutToldIsTrue no_other }
+    ensures any { RolloutToldIsTrue any_list }
+{
     moves_are_safe();
 }
 

@@ -20,7 +20,7 @@ pub record MakesFile (bytes : List ℕ) (may : ℕ → Type 0) (old new : Disk) 
   pub only : ChangesOnly (λ m. (m ≡ Main) ⊎ (m ≡ New)) may old new
 
 -- bytes that begin as this form, as far as they go, do so where they are cut
-begins_again : (form bytes : List ℕ) (count : ℕ) → length form ≡ 16 → take 16 bytes ≡ take (length bytes) form
+pub begins_again : (form bytes : List ℕ) (count : ℕ) → length form ≡ 16 → take 16 bytes ≡ take (length bytes) form
     → take 16 (take count bytes) ≡ take (length (take count bytes)) form
 begins_again form bytes count sixteen begins =
     let size = length-take count bytes in

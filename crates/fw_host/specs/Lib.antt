@@ -9,7 +9,9 @@ pub mod Clocks
 pub mod Strangers
 pub mod Captures
 pub mod BegunCapture
+pub mod Events
 pub mod Closings
 pub mod Sealings
+pub mod Progress
 -- For private clauses alone: no public clause cites it.
 pub mod Private

@@ -1,9 +1,12 @@
 -- Public vocabulary: lines that are written one after another, and what is left of one that can't be written. The progress line has no
 -- definition.
-use Rattle.std.specs.Prelude.{◌≡◌, ℕ, Bool, false, List, [], ◌∷◌, ◌++◌, Option, map}
+use Rattle.std.specs.Prelude.{◌≡◌, ℕ, Bool, false, List, [], ◌∷◌, ◌++◌, Option, Some, map}
 use Rattle.std.specs.List.{concat}
 use Rattle.std.specs.Io.KnownBytes.{Appends}
 use Rattle.fw_rollout.specs.declared.ended.Ended.{Ended}
+use Rattle.fw_rollout.specs.Leading.{state_after}
+use Rattle.fw_events.specs.declared.event.Event.{Event}
+use Rattle.fw_events.specs.declared.event.Event.TheVariants.{Row}
 use Rattle.fw_host.specs.Heads.{ended_line}
 
 -- known bytes grow by a front of these: by none, some or all of them
@@ -22,6 +25,10 @@ pub record Told (lines : List (List ℕ)) (was_lost is_lost : Bool) (before afte
   pub appends : Appends before after text
   pub fronts : AreFronts lines text
   pub whole : is_lost ≡ false → (was_lost ≡ false) × (text ≡ concat lines)
+
+-- the event of a row that ended
+abbrev pub row_event : Ended → Event
+row_event ended = Row ended.campaign.serial ended.meter (state_after ended.ending) (Some ended.end)
 
 -- the lines of rows that ended
 abbrev pub lines_of_rows : List Ended → List (List ℕ)

@@ -38,7 +38,7 @@ impl Kind for BegunCapture {
 }
 
 /// Whether a file, of which this is the front, begins as this form, as far as it goes.
-fn begins_as(front: &[u8], form: &[u8; FRONT_SIZE]) -> bool
+pub(crate) fn begins_as(front: &[u8], form: &[u8; FRONT_SIZE]) -> bool
     ensures { (all : List ℕ) → front.now ≡ take 16 all → (IsTrue result ↔ (take 16 all ≡ take (length all) form.now)) }
 {
     let count = front.len().min(FRONT_SIZE);

@@ -80,7 +80,7 @@ pub(crate) fn kept_line(alloc: Global, records: usize, file: &str) -> Result<Str
 }
 
 /// How a book notes the end of a row.
-fn state_after(ending: Ending) -> RowState
+pub(crate) fn state_after(ending: Ending) -> RowState
     ensures { result ≡ state_after ending }
 {
     match ending {

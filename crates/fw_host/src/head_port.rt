@@ -133,6 +133,7 @@ impl<'a, 'w, C: Clock + Eprint, W: Write, P: DatagramPort + Drop> UdpHeadPort<'a
         ensures closed { self.old.clock.failed ≡ true → self.new.clock ≡ self.old.clock }
     {
         self.clear();
+        self.lines.set_time(self.rt);
         self.lines.tell_ended(ended);
         // If it fails, nothing is received any more.
         let _ = self.clock.read(self.rt);

@@ -2,7 +2,11 @@
 
 ghost use Rattle.std.specs.Prelude.{◌≡◌, None};
 
-use fw_rollout::{Counts, HeadWatch};
+use crate::head_reach::{Lasting, Short, Since, known_among, needed_among, scaled};
+use fw_events::met_after;
+use fw_head::HeadCore;
+use fw_report::head_number;
+use fw_rollout::{Counts, HeadWatch, Stuck};
 use std::fmt;
 
 /// What clears the line of a terminal from its first column on (ECMA-48, CR and EL).
@@ -15,6 +19,9 @@ const WRAPPED: &str = "\u{1b}[?7h";
 
 /// The microseconds of a second.
 const SECOND: u64 = 1_000_000;
+
+/// Those of a millisecond.
+const MILLISECOND: u64 = 1_000;
 
 /// Where the command `head` shows how far it is, and how often.
 #[derive(Clone, Copy, PartialEq, Eq, Debug)]
@@ -42,6 +49,7 @@ impl ProgressOutput {
 #[derive(Drop)]
 struct Figures {
     counts: Counts,
+    blocks: BlockFigures,
     /// Datagrams a second.
     rate: u64,
     faults: u64,
@@ -49,26 +57,88 @@ struct Figures {
     unopened: u64,
 }
 
+/// What a line says of blocks.
+#[derive(Clone, Copy)]
+struct BlockFigures {
+    /// How many the meters of live rows are known to have.
+    known: u64,
+    /// How many they need.
+    needed: u64,
+    /// How many milliseconds the others take, if that can be said.
+    time_left: Option<u64>,
+}
+
+// A line has 80 characters at most if there are no more than 9,999 rows, and nothing was dropped.
 impl fmt::Display for Figures {
     fn fmt<W: fmt::Write>(&self, f: &mut fmt::Formatter<W>) -> fmt::Result {
         let Counts {
             live,
             done,
             failed,
-            sent: _,
+            sent,
             received: _,
             resends,
             strangers,
         } = self.counts;
-        let (rate, faults, unopened) = (self.rate, self.faults, self.unopened);
+        let rate = Short(self.rate);
+        let blocks = self.blocks;
         write!(
             f,
-            "{live} live, {done} done, {failed} failed; {rate} datagrams/s, {resends} resends, {strangers} strangers, {faults} faults"
+            "{blocks}, {live} live, {done} done, {failed} failed, {rate}/s"
         )?;
-        match unopened {
-            0 => Ok(()),
-            _ => write!(f, ", {unopened} unopened"),
+        if let Some(again) = scaled(resends, 100, sent) {
+            write!(f, ", {again}% again")?;
         }
+        if let Some(millis) = blocks.time_left {
+            let time = Lasting(millis / 1_000);
+            write!(f, ", ~{time}")?;
+        }
+        let strangers = Dropped(strangers, "strangers");
+        let faults = Dropped(self.faults, "faults");
+        let unopened = Dropped(self.unopened, "unopened");
+        write!(f, "{strangers}{faults}{unopened}")
+    }
+}
+
+impl fmt::Display for BlockFigures {
+    fn fmt<W: fmt::Write>(&self, f: &mut fmt::Formatter<W>) -> fmt::Result {
+        let (known, needed) = (Short(self.known), Short(self.needed));
+        write!(f, "{known}/{needed} blocks")?;
+        match scaled(self.known, 100, self.needed) {
+            Some(percent) => write!(f, " {percent}%"),
+            None => Ok(()),
+        }
+    }
+}
+
+/// How much of something was dropped, if anything was.
+#[derive(Clone, Copy)]
+struct Dropped(u64, &'static str);
+
+impl fmt::Display for Dropped {
+    fn fmt<W: fmt::Write>(&self, f: &mut fmt::Formatter<W>) -> fmt::Result {
+        let (count, what) = (self.0, self.1);
+        match count {
+            0 => Ok(()),
+            _ => write!(f, ", {count} {what}"),
+        }
+    }
+}
+
+/// The line of a row that got nowhere.
+#[derive(Drop)]
+struct NoProgress(Stuck);
+
+impl fmt::Display for NoProgress {
+    fn fmt<W: fmt::Write>(&self, f: &mut fmt::Formatter<W>) -> fmt::Result {
+        let Stuck {
+            campaign,
+            meter,
+            from,
+        } = self.0;
+        let (head, serial) = (head_number(campaign), campaign.serial());
+        let (meter, met) = (meter.number(), met_after(from));
+        write!(f, "row {head} {serial} {meter} no progress: {met}")
     }
 }
 
@@ -81,6 +151,8 @@ pub struct HeadProgress<'a, E: Eprint> {
     shown_at: Option<u64>,
     /// How many datagrams went and came until then.
     datagrams: u64,
+    /// Since when the blocks that are left have become fewer.
+    since: Option<Since>,
 }
 
 impl<'a, E: Eprint> HeadProgress<'a, E> {
@@ -90,12 +162,35 @@ impl<'a, E: Eprint> HeadProgress<'a, E> {
         ensures output { result.output ≡ output }
         ensures shown { result.shown_at ≡ None }
         ensures counted { result.datagrams ≡ 0 }
+        ensures since { result.since ≡ None }
     {
         HeadProgress {
             rt,
             output,
             shown_at: None,
             datagrams: 0,
+            since: None,
+        }
+    }
+
+    /// Looks at the blocks of the live rows.
+    fn look(&mut self, now: u64, head: &HeadCore) -> BlockFigures {
+        let known = known_among(head).unwrap_or(u64::MAX);
+        let needed = needed_among(head).unwrap_or(u64::MAX);
+        let (now, left) = (now / MILLISECOND, needed.saturating_sub(known));
+        let since = match self.since {
+            Some(since) => since.or_now(now, left),
+            None => Since::new(now, left),
+        };
+        self.since = Some(since);
+        let time_left = match left {
+            0 => None,
+            _ => since.time_left(now, left),
+        };
+        BlockFigures {
+            known,
+            needed,
+            time_left,
         }
     }
 
@@ -120,6 +215,20 @@ impl<'a, E: Eprint> HeadProgress<'a, E> {
         }
     }
 
+    /// Writes that a row got nowhere.
+    fn tell(&self, stuck: Stuck) {
+        let line = NoProgress(stuck);
+        match self.output {
+            ProgressOutput::Terminal => {
+                let _ = eprintln!(self.rt; "{CLEARED}{line}");
+            }
+            ProgressOutput::Log { every: _ } => {
+                let _ = eprintln!(self.rt; "{line}");
+            }
+            ProgressOutput::Hidden => {}
+        }
+    }
+
     /// Whether there is nothing to tell: nothing went or came since the last line, of what isn't a terminal.
     fn is_quiet(&self, datagrams: u64) -> bool {
         self.output != ProgressOutput::Terminal && datagrams == self.datagrams
@@ -127,7 +236,18 @@ impl<'a, E: Eprint> HeadProgress<'a, E> {
 }
 
 impl<'a, E: Eprint> HeadWatch for HeadProgress<'a, E> {
-    fn round(&mut self, now: u64, counts: Counts, faults: u64, unopened: u64) {
+    fn round(
+        &mut self,
+        now: u64,
+        counts: Counts,
+        faults: u64,
+        unopened: u64,
+        head: &HeadCore,
+        stuck: Option<Stuck>,
+    ) {
+        if let Some(stuck) = stuck {
+            self.tell(stuck);
+        }
         let Some(every) = self.output.every() else {
             return;
         };
@@ -137,8 +257,10 @@ impl<'a, E: Eprint> HeadWatch for HeadProgress<'a, E> {
         let datagrams = counts.sent.saturating_add(counts.received);
         if !self.is_quiet(datagrams) {
             let rate = self.rate(now, datagrams);
+            let blocks = self.look(now, head);
             self.show(Figures {
                 counts,
+                blocks,
                 rate,
                 faults,
                 unopened,
@@ -156,6 +278,7 @@ impl<'a, E: Eprint> Drop for HeadProgress<'a, E> {
             output,
             shown_at,
             datagrams: _,
+            since: _,
         } = self;
         if let (ProgressOutput::Terminal, Some(_)) = (output, shown_at) {
             let _ = eprint!(rt; "{CLEARED}");

@@ -18,16 +18,19 @@ ghost use Rattle.std.specs.Prelude.{
 };
 ghost use Rattle.std.specs.Io.KnownBytes.{Appends, Keeps};
 ghost use Rattle.fw_host.specs.Heads.{cancelled_line, ended_line, opened_line, over_line};
-ghost use Rattle.fw_host.specs.Meters.{activated_line, dropped_line};
-ghost use Rattle.fw_host.specs.Telling.{AppendsFront, Told};
+ghost use Rattle.fw_host.specs.Meters.{dropped_line, event_line};
+ghost use Rattle.fw_host.specs.Telling.{AppendsFront, Told, row_event};
 
-use crate::head_lines::{cancelled_line, ended_line, opened_line, over_line};
-use crate::meter_lines::{activated_line, dropped_line};
-use fw_daemon::Dropped;
+use crate::event_file::EventFile;
+use crate::head_lines::{cancelled_line, ended_line, opened_line, over_line, state_after};
+use crate::meter_lines::{dropped_line, event_line};
+use fw_daemon::{Dropped, MeterEvent};
+use fw_events::Event;
 use fw_names::{CampaignId, ImageName};
 use fw_rollout::{Counts, Ended};
 use std::alloc::{AllocError, Global};
 use std::io::{ErrorKind, Write};
+use std::rt::Clock;
 
 /// The most times that a writer is asked to take a line.
 const MAX_WRITES: u64 = 4_294_967_296;
@@ -39,6 +42,8 @@ pub struct Lines<'a, W: Write> {
     writer: &'a mut W,
     /// Whether a line was lost.
     lost: bool,
+    /// The file of events, if one is asked for.
+    events: Option<&'a EventFile>,
 }
 
 impl<'a, W: Write> Lines<'a, W> {
@@ -52,6 +57,30 @@ impl<'a, W: Write> Lines<'a, W> {
             alloc,
             writer,
             lost: false,
+            events: None,
+        }
+    }
+
+    /// From now on the event of each line of a head end is appended to this file behind it, if there is one.
+    pub fn set_events(&mut self, events: Option<&'a EventFile>)
+        ensures writer { self.new.writer.ghost_name ≡ self.old.writer.ghost_name }
+        ensures unwritten { W.contents self.new.writer.now ≡ W.contents self.old.writer.now }
+        ensures lost { self.new.lost ≡ self.old.lost }
+    {
+        self.events = events;
+    }
+
+    /// The events that follow happen now, by the clock of the system.
+    pub(crate) fn set_time<C: Clock>(&self, rt: &C) {
+        if let Some(events) = self.events {
+            events.set_time(rt);
+        }
+    }
+
+    /// Appends an event, if there is a file for it.
+    fn note(&self, event: Event) {
+        if let Some(events) = self.events {
+            events.tell(event);
         }
     }
 
@@ -62,6 +91,7 @@ impl<'a, W: Write> Lines<'a, W> {
     {
         let line = opened_line(self.alloc, name);
         self.tell(line);
+        self.note(Event::Opened { name });
     }
 
     /// The line of a campaign that was cancelled.
@@ -72,6 +102,8 @@ impl<'a, W: Write> Lines<'a, W> {
     {
         let line = cancelled_line(self.alloc, campaign);
         self.tell(line);
+        let serial = campaign.serial();
+        self.note(Event::Cancelled { serial });
     }
 
     /// The line of a row that ended.
@@ -79,8 +111,10 @@ impl<'a, W: Write> Lines<'a, W> {
         ensures writer { self.new.writer.ghost_name ≡ self.old.writer.ghost_name }
         ensures told { Told (ended_line ended ∷ []) self.old.lost self.new.lost (W.contents self.old.writer.now) (W.contents self.new.writer.now) }
     {
+        let event = row_event(&ended);
         let line = ended_line(self.alloc, ended);
         self.tell(line);
+        self.note(event);
     }
 
     /// The line at the end of the command `head`.
@@ -90,25 +124,27 @@ impl<'a, W: Write> Lines<'a, W> {
     {
         let line = over_line(self.alloc, counts);
         self.tell(line);
+        let (done, failed) = (counts.done, counts.failed);
+        self.note(Event::Over { done, failed });
     }
 
-    /// The line of an image that a meter switched to, of several the one of this number.
-    pub fn tell_activated(&mut self, number: Option<usize>, name: ImageName)
+    /// The line of what there is to tell of a meter, of several the one of this number.
+    pub fn tell_event(&mut self, number: Option<usize>, event: MeterEvent)
         ensures writer { self.new.writer.ghost_name ≡ self.old.writer.ghost_name }
-        ensures told { Told (activated_line number name ∷ []) self.old.lost self.new.lost (W.contents self.old.writer.now)
+        ensures told { Told (event_line number event ∷ []) self.old.lost self.new.lost (W.contents self.old.writer.now)
             (W.contents self.new.writer.now) }
     {
-        let line = activated_line(self.alloc, number, name);
+        let line = event_line(self.alloc, number, event);
         self.tell(line);
     }
 
-    /// The line of what was dropped.
-    pub fn tell_dropped(&mut self, dropped: Dropped, faults: u64, unopened: u64)
+    /// The line of what was dropped, and of how many events were left out.
+    pub fn tell_dropped(&mut self, dropped: Dropped, faults: u64, unopened: u64, untold: u64)
         ensures writer { self.new.writer.ghost_name ≡ self.old.writer.ghost_name }
-        ensures told { Told (dropped_line dropped faults unopened ∷ []) self.old.lost self.new.lost (W.contents self.old.writer.now)
+        ensures told { Told (dropped_line dropped faults unopened untold ∷ []) self.old.lost self.new.lost (W.contents self.old.writer.now)
             (W.contents self.new.writer.now) }
     {
-        let line = dropped_line(self.alloc, dropped, faults, unopened);
+        let line = dropped_line(self.alloc, dropped, faults, unopened, untold);
         self.tell(line);
     }
 
@@ -133,6 +169,18 @@ impl<'a, W: Write> Lines<'a, W> {
             return;
         }
         self.lost = true;
+    }
+}
+
+/// The event of a row that ended.
+fn row_event(ended: &Ended) -> Event
+    ensures { result ≡ row_event ended.now }
+{
+    Event::Row {
+        serial: ended.campaign.serial(),
+        meter: ended.meter.number(),
+        state: state_after(ended.ending),
+        end: Some(ended.end),
     }
 }
 

@@ -18,6 +18,8 @@ pub mod Daemons
 pub mod Hearing
 pub mod Steps
 pub mod Rounds
+pub mod Rollouts
 pub mod Shorter
 pub mod Silences
+pub mod Resting
 pub mod Activating

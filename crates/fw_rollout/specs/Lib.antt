@@ -4,9 +4,11 @@ pub mod Timing
 pub mod Leading
 pub mod Counting
 pub mod Contacts
+pub mod Laps
 pub mod Daemon
 pub mod Plans
 pub mod Legs
+pub mod Rollout
 pub mod Laws
 pub mod Early
 pub mod Lists

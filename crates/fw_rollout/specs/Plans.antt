@@ -1,8 +1,12 @@
 -- Public vocabulary: which row a head end asks next, by its plan, and which row it gives up.
-use Rattle.std.specs.Prelude.{◌≡◌, ◌⊎◌, ℕ, false, List, [], ◌∷◌, ◌++◌, Some, Contains, is_some, slice_get}
+use Rattle.std.specs.Prelude.{◌≡◌, ◌⊎◌, ℕ, false, List, [], ◌∷◌, ◌++◌, Option, Some, None, Contains, is_some, slice_get, if◌then◌else◌}
+use Rattle.std.specs.Option.{option_map}
 use Rattle.std.specs.declared.net.socket_addr.SocketAddr.{SocketAddr}
 use Rattle.fw_book.specs.declared.row.RowState.TheVariants as state
-use Rattle.fw_head.specs.Head.{GivesUpRow, activates_at, row_of}
+use Rattle.fw_book.specs.declared.phase.Phase.{Phase}
+use Rattle.fw_head.specs.Phase.{phase_of}
+use Rattle.fw_head.specs.Row.{Row}
+use Rattle.fw_head.specs.Head.{GivesUpRow, Head, activates_at, row_of}
 use Rattle.fw_head.specs.declared.giving_up.GivenUp.{GivenUp}
 use Rattle.fw_head.specs.declared.giving_up.WhyGivenUp.TheVariants as why
 use Rattle.fw_kept.specs.Head.{head_of}
@@ -21,6 +25,10 @@ use Rattle.fw_rollout.specs.declared.link.Listed.{Listed}
 use Rattle.fw_rollout.specs.declared.plan.Plan.{Plan}
 use Rattle.fw_rollout.specs.Contacts as contacts
 use Rattle.fw_rollout.specs.Contacts.{contact_in, heard_in, seconds_of}
+use Rattle.fw_rollout.specs.Laps as laps
+use Rattle.fw_rollout.specs.Laps.{IsRestedIn, lap_in, laps_gone, nowhere_between}
+use Rattle.fw_rollout.specs.declared.stuck.Stuck.{Stuck}
+use Rattle.fw_rollout.specs.declared.laps.Lap.{Lap}
 use Rattle.fw_rollout.specs.Daemon.{kept_of, meters_of}
 use Rattle.fw_rollout.specs.Leading.{IsListed, Leader}
 
@@ -32,6 +40,10 @@ plan_of daemon = daemon.plan
 -- the contacts with the meters of its list, by their places
 abbrev pub contacts_of : {D : Type 0} → HeadDaemon D → List Contact
 contacts_of daemon = contacts.contacts_of daemon.contacts
+
+-- the laps of the rows of these meters
+abbrev pub laps_of : {D : Type 0} → HeadDaemon D → List Lap
+laps_of daemon = laps.laps_of daemon.laps
 
 -- ---- the row that is the next
 
@@ -81,12 +93,16 @@ pub record KnowsSame {D : Type 0} (old new : HeadDaemon D) : Type 0 where
 abbrev pub IsSilentAt : {D : Type 0} → HeadDaemon D → ℕ → ℕ → Type 0
 IsSilentAt daemon now place = GivesUp (plan_of daemon).deadline state.Live (contact_in (contacts_of daemon) place) (seconds_of now)
 
--- a row waits at this date: it is of a meter of the list, and the window doesn't let it be asked
-pub record IsWaitedFor {D : Type 0} (daemon : HeadDaemon D) (date : ℕ) : Type 0 where
+-- the row of the meter at this place of the list has rested after its last lap that got nowhere
+abbrev pub IsRestedAt : {D : Type 0} → HeadDaemon D → ℕ → ℕ → Type 0
+IsRestedAt daemon now place = IsRestedIn (laps_of daemon) now place
+
+-- a row waits at this time and date: it is of a meter of the list, and the window doesn't let it be asked, or it hasn't rested
+pub record IsWaitedFor {D : Type 0} (daemon : HeadDaemon D) (now date : ℕ) : Type 0 where
   pub place : ℕ
   pub at : Listed
   pub there : slice_get (meters_of daemon) place ≡ Some at
-  pub held : ¬ IsLet daemon date at.meter
+  pub held : ¬ (IsLet daemon date at.meter × IsRestedAt daemon now place)
 
 -- a meter of the list, with its address, is silent for too long
 pub record IsSilent {D : Type 0} (daemon : HeadDaemon D) (now : ℕ) (at : Listed) : Type 0 where
@@ -94,11 +110,13 @@ pub record IsSilent {D : Type 0} (daemon : HeadDaemon D) (now : ℕ) (at : Liste
   pub there : slice_get (meters_of daemon) place ≡ Some at
   pub silent : IsSilentAt daemon now place
 
--- a meter of the list is asked: the window lets its row be asked, it isn't silent for too long, and it owes an answer from now on
+-- a meter of the list is asked: the window lets its row be asked, which has rested, it isn't silent for too long, and it owes an answer from
+-- now on
 pub record IsAskedAs {D : Type 0} (old : HeadDaemon D) (now date : ℕ) (due : Due) (new : HeadDaemon D) : Type 0 where
   pub place : ℕ
   pub there : slice_get (meters_of old) place ≡ Some (record { meter = due.meter; address = due.to })
   pub let_so : IsLet old date due.meter
+  pub rested : IsRestedAt old now place
   pub heard : ¬ IsSilentAt old now place
   pub owes : contacts_of new ≡ contacts.asked_in place (seconds_of now) (contacts_of old)
 
@@ -115,6 +133,39 @@ pub record HearsOf {D : Type 0} (now : ℕ) (from : SocketAddr) (old new : HeadD
 abbrev pub NotesContact : {D : Type 0} → Heard → ℕ → SocketAddr → HeadDaemon D → HeadDaemon D → Type 0
 NotesContact returned.Stranger now from old new = contacts_of new ≡ contacts_of old
 NotesContact what now from old new = HearsOf now from old new
+
+-- ---- laps that get nowhere
+
+-- where the live row of a meter is, if the meter has one
+abbrev pub phase_at : Head → ℕ → Option Phase
+phase_at head meter = option_map (λ (row : Row). phase_of row.stage) (row_of head.rows meter)
+
+-- the row of a meter that came from this phase, as it is told
+abbrev pub stuck_at : Head → ℕ → Option Phase → Option Stuck
+stuck_at head meter (Some from) =
+    option_map (λ (row : Row). (let stuck : Stuck = record { campaign = row.name.campaign; meter = meter; from = from } in stuck)) (row_of head.rows meter)
+stuck_at head meter None = None
+
+-- if its lap ends and got nowhere
+abbrev pub stuck_by : Lap → Head → ℕ → Option Phase → Option Phase → Option Stuck
+stuck_by lap head meter from to = if nowhere_between from to lap then stuck_at head meter from else None
+
+-- the row that is told to have got nowhere, if one did by the datagram that came last
+abbrev pub stuck_of : {D : Type 0} → HeadDaemon D → Option Stuck
+stuck_of daemon = daemon.stuck
+
+-- a datagram of the meter with this address led its row from one phase to another
+pub record GoesOnInLap {D : Type 0} (now : ℕ) (from : SocketAddr) (old new : HeadDaemon D) : Type 0 where
+  pub place : ℕ
+  pub meter : ℕ
+  pub there : slice_get (meters_of old) place ≡ Some (record { meter = meter; address = from })
+  pub gone : laps_of new ≡ laps_gone place now (phase_at (head_of (kept_of old)) meter) (phase_at (head_of (kept_of new)) meter) (laps_of old)
+  pub told : stuck_of new ≡ stuck_by (lap_in (laps_of old) place) (head_of (kept_of new)) meter (phase_at (head_of (kept_of old)) meter) (phase_at (head_of (kept_of new)) meter)
+
+-- an answer tells how the row is getting on in its lap, and any other datagram tells nothing of it
+abbrev pub NotesLap : {D : Type 0} → Heard → ℕ → SocketAddr → HeadDaemon D → HeadDaemon D → Type 0
+NotesLap returned.Moved now from old new = GoesOnInLap now from old new
+NotesLap what now from old new = (laps_of new ≡ laps_of old) × (stuck_of new ≡ None)
 
 -- ---- a row that is given up
 

@@ -12,6 +12,7 @@ ghost use Rattle.std.specs.Prelude.{
   ◌⊎◌,
   All,
   Contains,
+  None,
   Some,
   false,
   IsTrue,
@@ -57,17 +58,24 @@ ghost use Rattle.fw_rollout.specs.Plans.{
   IfWaits,
   IsAskedAs,
   IsLet,
+  IsRestedAt,
   IsSilent,
   IsSilentAt,
   IsWaitedFor,
   KnowsSame,
   MatchNext,
   NotesContact,
+  NotesLap,
   contacts_of,
+  laps_of,
+  phase_at,
+  stuck_by,
+  stuck_of,
   plan_of,
   with_meters,
 };
 ghost use Rattle.fw_plan.specs.Silence.{no_contact};
+ghost use Rattle.fw_rollout.specs.Laps.{lap_in, no_lap};
 ghost use Rattle.fw_rollout.specs.Daemon.{
   EndsOneAt,
   HasRunOut,
@@ -103,13 +111,15 @@ use crate::contacts::{Contacts, seconds_of};
 use crate::early::is_early;
 use crate::ended::Ended;
 use crate::error::Stop;
+use crate::laps::Laps;
 use crate::link::{Answer, Listed};
 use crate::meters::MeterList;
 use crate::plan::Plan;
 use crate::schedule::Schedule;
+use crate::stuck::Stuck;
 use crate::timing::Timing;
 use fw_book::{End, RowState};
-use fw_head::{HeadCore, News, OutOfMemory, Told, WhyGivenUp};
+use fw_head::{HeadCore, News, OutOfMemory, Phase, Told, WhyGivenUp};
 use fw_journal::JournalDevice;
 use fw_kept::KeptHead;
 use fw_ledger::Ending;
@@ -155,7 +165,8 @@ pub struct Due {
 pub enum Next {
     /// It is asked.
     Asks(Due),
-    /// It waits, since its next request would activate the image, and that may not be at this time.
+    /// It waits, since its next request would activate the image, and that may not be at this time, or since it rests after a lap that got
+    /// nowhere.
     Waits,
     /// It isn't asked, since its meter is silent for too long. It is to be given up, and stays the next until then.
     Silent(Listed),
@@ -185,6 +196,10 @@ pub struct HeadDaemon<D: JournalDevice + Drop> {
     schedule: Schedule,
     /// When each meter of the list was asked and heard.
     contacts: Contacts,
+    /// How the row of each of them is getting on.
+    laps: Laps,
+    /// The row that got nowhere, if one did by the datagram that came last. It is told before the next row is asked.
+    stuck: Option<Stuck>,
     /// The rows that ended and are not on the device yet, the oldest first.
     ended: Vec<Ended>,
     /// When the oldest of them ended.
@@ -201,6 +216,8 @@ impl<D: JournalDevice + Drop> Drop for HeadDaemon<D> {
             plan: _,
             schedule: _,
             contacts: _,
+            laps: _,
+            stuck: _,
             ended: _,
             held_since: _,
             counts: _,
@@ -226,6 +243,7 @@ impl<D: JournalDevice + Drop> HeadDaemon<D> {
         ensures timing { IfOk result (λ daemon. timing_of daemon ≡ timing) }
         ensures plan { IfOk result (λ daemon. plan_of daemon ≡ plan) }
         ensures contacts { IfOk result (λ daemon. contacts_of daemon ≡ replicate (length meters.now) no_contact) }
+        ensures laps { IfOk result (λ daemon. laps_of daemon ≡ replicate (length meters.now) no_lap) }
         ensures counts { IfOk result (λ daemon. counted_of daemon ≡ none_counted) }
         ensures led { (synced : Contents) → Holds D.honest D.contents D.may_leave kept synced
             → IfOk result (λ daemon. IsLed D.honest D.contents D.may_leave daemon (new_leader meters.now (head_of kept) synced)) }
@@ -234,12 +252,15 @@ impl<D: JournalDevice + Drop> HeadDaemon<D> {
         let list = meters.meters();
         let schedule = schedule_of(alloc, kept.head(), list, timing)?;
         let contacts = Contacts::new(alloc, list.len())?;
+        let laps = Laps::new(alloc, list.len())?;
         Ok(HeadDaemon {
             alloc,
             kept,
             plan,
             schedule,
             contacts,
+            laps,
+            stuck: None,
             ended: Vec::new(alloc),
             held_since: 0,
             counts: Counts {
@@ -255,8 +276,8 @@ impl<D: JournalDevice + Drop> HeadDaemon<D> {
     }
 
     /// What comes of the row that may be asked next at this time, of which nothing is outstanding, or whose answers were waited for long enough:
-    /// what it sends, or that it waits by the plan, where `date` is the time in seconds since 1970, or that its meter is silent. No more is
-    /// out at once than the flight, or one tick. Each datagram is one that a head end may send of the book on the device.
+    /// what it sends, or that it waits by the plan, where `date` is the time in seconds since 1970, or rests, or that its meter is silent. No
+    /// more is out at once than the flight, or one tick. Each datagram is one that a head end may send of the book on the device.
     ///
     /// # Errors
     ///
@@ -268,14 +289,16 @@ impl<D: JournalDevice + Drop> HeadDaemon<D> {
             × IsAboutToSend next due.to (bytes_of due.datagrams.items))
             (IsLed D.honest D.contents D.may_leave self.new leader)) }
 
-        // It asks only rows that the plan lets it ask.
+        // It asks only rows that the plan lets it ask, and that have rested.
         ensures plan { (leader : Leader) → IsLed D.honest D.contents D.may_leave self.old leader
             → IfOk result (λ r. IfAsks r (λ due. IsAskedAs self.old now date due self.new)) }
 
-        // A row waits, and a meter is silent, only by the plan.
-        ensures held { IfOk result (λ r. IfWaits r (IsWaitedFor self.new date)) }
+        // A row waits only by the plan or since it rests, and a meter is silent only by the plan.
+        ensures held { IfOk result (λ r. IfWaits r (IsWaitedFor self.new now date)) }
         ensures silent { IfOk result (λ r. IfSilent r (IsSilent self.new now)) }
         ensures contacts { IfOk result (λ r. MatchNext r (λ due. Unit {0}) (contacts_of self.new ≡ contacts_of self.old)) }
+        ensures laps { laps_of self.new ≡ laps_of self.old }
+        ensures stuck { stuck_of self.new ≡ None }
         ensures same_plan { plan_of self.new ≡ plan_of self.old }
 
         // Nothing is sent that the book on the device doesn't offer.
@@ -313,6 +336,7 @@ impl<D: JournalDevice + Drop> HeadDaemon<D> {
         ensures wanted { (leader : Leader) → IsLed D.honest D.contents D.may_leave self.old leader → OnErr result (¬ IsOver leader) }
         ensures memory { IfErr result (λ stop. stop ≡ Stop.OutOfMemory) }
     {
+        self.stuck = None;
         let Some(place) = self.schedule.next(now)? else {
             return Ok(Next::Nobody);
         };
@@ -322,7 +346,7 @@ impl<D: JournalDevice + Drop> HeadDaemon<D> {
         if self.is_silent(place, now) {
             return Ok(Next::Silent(listed));
         }
-        if !self.is_let(listed.meter, date) {
+        if !self.may_ask(place, listed.meter, now, date) {
             self.schedule.hold(place, now)?;
             return Ok(Next::Waits);
         }
@@ -336,6 +360,16 @@ impl<D: JournalDevice + Drop> HeadDaemon<D> {
             to: listed.address,
             datagrams,
         }))
+    }
+
+    /// Whether the row of the meter at this place may be asked: the window lets it be asked, and it has rested.
+    fn may_ask(&self, place: usize, meter: MeterId, now: u64, date: u64) -> bool
+        ensures { IsTrue result ↔ (IsLet self.now date meter × IsRestedAt self.now now place) }
+    {
+        if !self.is_let(meter, date) {
+            return false;
+        }
+        self.laps.at(place).has_rested(now)
     }
 
     /// Whether the window lets the row of a meter be asked at this date.
@@ -379,6 +413,7 @@ impl<D: JournalDevice + Drop> HeadDaemon<D> {
         ensures counts { counted_of self.new ≡ counted_of self.old }
         ensures resends { OnOk result ((counts_of self.new).resends ≡ (counts_of self.old).resends) }
         ensures contacts { contacts_of self.new ≡ contacts_of self.old }
+        ensures laps { laps_of self.new ≡ laps_of self.old }
         ensures plan { plan_of self.new ≡ plan_of self.old }
         ensures memory { IfErr result (λ stop. stop ≡ Stop.OutOfMemory) }
     {
@@ -414,6 +449,7 @@ impl<D: JournalDevice + Drop> HeadDaemon<D> {
             → OnOk result (IsLed D.honest D.contents D.may_leave self.new (with_meters meters.now leader)) }
         ensures meters { OnOk result (meters_of self.new ≡ meters.now) }
         ensures contacts { OnOk result (contacts_of self.new ≡ replicate (length meters.now) no_contact) }
+        ensures laps { OnOk result (laps_of self.new ≡ replicate (length meters.now) no_lap) }
         ensures kept { kept_of self.new ≡ kept_of self.old }
         ensures timing { timing_of self.new ≡ timing_of self.old }
         ensures plan { plan_of self.new ≡ plan_of self.old }
@@ -428,9 +464,11 @@ impl<D: JournalDevice + Drop> HeadDaemon<D> {
         let timing = self.schedule.timing();
         let mut schedule = schedule_of(self.alloc, self.kept.head(), list, timing)?;
         let contacts = Contacts::new(self.alloc, list.len())?;
+        let laps = Laps::new(self.alloc, list.len())?;
         schedule.count_on(self.schedule.resends());
         self.schedule = schedule;
         self.contacts = contacts;
+        self.laps = laps;
         Ok(())
     }
 
@@ -468,6 +506,10 @@ impl<D: JournalDevice + Drop> HeadDaemon<D> {
         // Whatever its bytes are, a datagram of a meter of the list says that it isn't silent.
         ensures contacts { (leader : Leader) → IsLed D.honest D.contents D.may_leave self.old leader
             → IfOk result (λ what. NotesContact what now from self.old self.new) }
+
+        // An answer tells how its row is getting on, by the phases that it led from and to.
+        ensures laps { (leader : Leader) → IsLed D.honest D.contents D.may_leave self.old leader
+            → IfOk result (λ what. NotesLap what now from self.old self.new) }
         ensures plan { plan_of self.new ≡ plan_of self.old }
 
         // Memory is refused for a datagram of a listed meter alone, which has a live row.
@@ -479,12 +521,14 @@ impl<D: JournalDevice + Drop> HeadDaemon<D> {
         fw_head::laws::row_keeps_goal();
         // For its clauses alone: the live rows are those of the book.
         let _view = self.kept.head().view();
+        self.stuck = None;
         let Some((place, meter)) = place_of(&self.schedule, from) else {
             count(&mut self.counts.strangers);
             return Ok(Heard::Stranger);
         };
         count(&mut self.counts.received);
         self.contacts.heard(place, now);
+        let was = self.phase_of(meter);
         let has_row = self.has_row(meter);
         make_room(&mut self.ended, has_row)?;
         let Told { news, reason } = self.kept.hear(self.alloc, meter, datagram, at)?;
@@ -494,6 +538,9 @@ impl<D: JournalDevice + Drop> HeadDaemon<D> {
             News::Moved => {
                 let answer = self.answer_of(meter, datagram)?;
                 self.schedule.answered(place, now, answer)?;
+                let is = self.phase_of(meter);
+                self.stuck = self.stuck_row(place, meter, was, is);
+                self.laps.go(place, now, was, is);
                 Ok(Heard::Moved)
             }
             News::Done(campaign, meter) => {
@@ -512,6 +559,35 @@ impl<D: JournalDevice + Drop> HeadDaemon<D> {
         ensures { result ≡ is_some (row_of (head_of (kept_of self.now)).rows meter) }
     {
         self.kept.head().has_row(meter)
+    }
+
+    /// Where the live row of a meter is, if the meter has one.
+    fn phase_of(&self, meter: MeterId) -> Option<Phase>
+        ensures { result ≡ phase_at (head_of (kept_of self.now)) meter }
+    {
+        match self.kept.head().row(meter) {
+            Some(row) => Some(row.phase()),
+            None => None,
+        }
+    }
+
+    /// The row of the meter at this place, if its lap ends by an answer that led it from one phase to another, and got nowhere.
+    fn stuck_row(
+        &self,
+        place: usize,
+        meter: MeterId,
+        was: Option<Phase>,
+        is: Option<Phase>,
+    ) -> Option<Stuck>
+        ensures { result ≡ stuck_by (lap_in (laps_of self.now) place) (head_of (kept_of self.now)) meter was is }
+    {
+        if !self.laps.at(place).gets_nowhere(was, is) {
+            return None;
+        }
+        match was {
+            Some(from) => Stuck::of(self.kept.head(), meter, from),
+            None => None,
+        }
     }
 
     /// What an answer of a meter leaves of what its row asked.
@@ -550,6 +626,8 @@ impl<D: JournalDevice + Drop> HeadDaemon<D> {
         ensures meters { EndsMeter place self.old.schedule self.new.schedule }
         ensures schedule { IsSchedule self.old.schedule → IsSchedule self.new.schedule }
         ensures contacts { contacts_of self.new ≡ contacts_of self.old }
+        ensures laps { laps_of self.new ≡ laps_of self.old }
+        ensures stuck { stuck_of self.new ≡ stuck_of self.old }
         ensures plan { plan_of self.new ≡ plan_of self.old }
         ensures memory { IfErr result (λ stop. stop ≡ Stop.OutOfMemory) }
     {
@@ -614,6 +692,13 @@ impl<D: JournalDevice + Drop> HeadDaemon<D> {
         ensures ran_out { IsTrue result ↔ HasRunOut self.now }
     {
         self.schedule.live() == 0 && self.ended.is_empty()
+    }
+
+    /// The row that got nowhere in its lap, if one did by the datagram that came last, and no row was asked since then.
+    pub fn stuck(&self) -> Option<Stuck>
+        ensures { result ≡ stuck_of self.now }
+    {
+        self.stuck
     }
 
     /// The head end in memory, with the marks that wait.

@@ -5,17 +5,20 @@ ghost use Rattle.std.specs.Prelude.{◌≡◌, ◌++◌, ◌∷◌, [], List, No
 ghost use Rattle.fw_port.specs.Acts.{quiet};
 ghost use Rattle.fw_head.specs.Row.{bytes_of};
 ghost use Rattle.fw_rollout.specs.Acts.{Act};
-ghost use Rattle.fw_rollout.specs.Counting.{TellsCounted, TellsRows, counted_of, told_in};
+ghost use Rattle.fw_rollout.specs.Counting.{TellsRows, told_in};
 ghost use Rattle.fw_rollout.specs.Leading.{IsAboutToSend, IsAboutToTell, Leader, Leads, MayLead};
 ghost use Rattle.fw_rollout.specs.Daemon.{HasRunOut, IsLed, IsOver, LeadsOver, MayLeadOver, NoneDue};
 ghost use Rattle.fw_rollout.specs.Legs.{IfOver, IfSilent, WasSilent};
 ghost use Rattle.fw_rollout.specs.Plans.{KnowsSame};
+ghost use Rattle.fw_rollout.specs.Rollout.{MayRollOutOver, RollsOutOver, no_other};
 
 use crate::daemon::{Counts, HeadDaemon, Next};
 use crate::ended::Ended;
 use crate::error::Stop;
 use crate::link::Listed;
 use crate::port::HeadPort;
+use crate::stuck::Stuck;
+use fw_head::HeadCore;
 use fw_journal::JournalDevice;
 use fw_port::{MAX_RECEIVED, Patience};
 use std::net::SocketAddr;
@@ -53,9 +56,17 @@ impl Sent {
 
 /// What looks at a head end while it leads.
 pub trait HeadWatch {
-    /// It is called after each round, with the time in microseconds, how far the head end is, how often the port failed, and
-    /// how many datagrams it didn't open.
-    fn round(&mut self, now: u64, counts: Counts, faults: u64, unopened: u64);
+    /// It is called after each round, with the time in microseconds, how far the head end is, how often the port failed,
+    /// how many datagrams it didn't open, the head end in memory, and the row that got nowhere by the datagram of the round, if one did.
+    fn round(
+        &mut self,
+        now: u64,
+        counts: Counts,
+        faults: u64,
+        unopened: u64,
+        head: &HeadCore,
+        stuck: Option<Stuck>,
+    );
 }
 
 /// One round: what is due is sent, of [`MAX_TICKS`] rows at most, a datagram is received and heard, and the rows that ended are put on the
@@ -251,7 +262,9 @@ pub fn serve_head<R: Wait, P: HeadPort, D: JournalDevice + Drop, W: HeadWatch>(
             return Ok(Leg::Over);
         }
         let silent = step_with(port, daemon, &mut now, &mut buffer)?;
-        watch.round(now, daemon.counts(), port.faults(), port.unopened());
+        let (counts, stuck) = (daemon.counts(), daemon.stuck());
+        let (faults, unopened) = (port.faults(), port.unopened());
+        watch.round(now, counts, faults, unopened, daemon.head(), stuck);
         if let Some(at) = silent {
             return Ok(Leg::Silent(at));
         }
@@ -260,8 +273,7 @@ pub fn serve_head<R: Wait, P: HeadPort, D: JournalDevice + Drop, W: HeadWatch>(
 }
 
 /// Leads the rows to their ends, as `serve_head`, and gives up each whose meter is silent for too long. It returns `Ok` once none is live and
-/// all that ended is on the device, and never if it stays. It is for ports that nothing is known of: a row that is given up is no step of a head
-/// end that leads.
+/// all that ended is on the device, and never if it stays.
 ///
 /// # Errors
 ///
@@ -273,11 +285,8 @@ pub fn serve_plan<R: Wait, P: HeadPort, D: JournalDevice + Drop, W: HeadWatch>(
     stays: bool,
     watch: &mut W,
 ) -> Result<(), Stop>
-    requires unknown { P.honest port.old ≡ false }
-    ensures honesty { P.honest port.new ≡ false }
-
-    // What was reported is what was counted as done and as given up.
-    ensures tells { TellsCounted P.tells port.old port.new (counted_of daemon.old) (counted_of daemon.new) }
+    requires begins { MayRollOutOver no_other P.Port D.JournalDevice port.old daemon.old }
+    ensures rolls { RollsOutOver no_other P.Port D.JournalDevice port.old daemon.old result port.new daemon.new }
     ensures over { (now : Leader) → IsLed D.honest D.contents D.may_leave daemon.new now → OnOk result (IsOver now) }
     ensures stays { OnOk result (stays ≡ false) }
     ensures ran_out { OnOk result (HasRunOut daemon.new) }

@@ -3,6 +3,7 @@
 
 ghost use Rattle.std.specs.Prelude.{◌≡◌, ◌↔◌, IsTrue};
 ghost use Rattle.fw_rollout.specs.Timing.{HasRoom, lengthened, longer, wait_after};
+ghost use Rattle.fw_rollout.specs.Laps.{longer_rest};
 
 /// The longest wait, a minute.
 pub const LONGEST_WAIT: u64 = 60_000_000;
@@ -45,6 +46,13 @@ pub(crate) fn longer(pause: u64) -> u64
     ensures { result ≡ longer pause }
 {
     pause.saturating_mul(2).min(LONGEST_PAUSE)
+}
+
+/// How long a row rests after a lap that got nowhere, if it rested this long after the last one (backoff).
+pub(crate) fn longer_rest(rest: u64) -> u64
+    ensures { result ≡ longer_rest rest }
+{
+    rest.saturating_mul(2).min(LONGEST_WAIT)
 }
 
 /// Whether another tick may be sent where `out` datagrams are out.

@@ -2,3 +2,4 @@ mod Lists
 mod Sealed
 mod Counting
 mod Ports
+mod Rollouts

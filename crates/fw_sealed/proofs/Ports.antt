@@ -21,7 +21,7 @@ use Rattle.fw_sealed.proofs.Sealed.{was_sent}
 -- ---- what a port let through
 
 -- what opened as a peer's opened on the link that the peer is at the other end of
-came_as : (links : Links) (arrived : List (List ℕ)) (head meter : ℕ) (direction : Direction) (peer : Peer) (own datagram : List ℕ)
+pub came_as : (links : Links) (arrived : List (List ℕ)) (head meter : ℕ) (direction : Direction) (peer : Peer) (own datagram : List ℕ)
     → peer.ends ≡ (let e : Ends = record { keys = links.keys head meter; own = own; other = links.title head meter direction } in e)
     → OpensAs peer arrived datagram → CameSealed links arrived head meter direction datagram
 came_as links arrived head meter direction peer own datagram is o = record {
@@ -81,7 +81,7 @@ skip made steps from datagram not has = elim (first_or made (hears from datagram
   | inr there ↦ there
 ]
 
-came_by : (steps : List Step) (from : SocketAddr) (datagram : List ℕ) → Contains steps (hears from datagram) → Contains (acts_of steps) (came from datagram)
+pub came_by : (steps : List Step) (from : SocketAddr) (datagram : List ℕ) → Contains steps (hears from datagram) → Contains (acts_of steps) (came from datagram)
 came_by [] from datagram has = absurd (none_there (hears from datagram) has)
 came_by (hears at bytes ∷ steps) from datagram has = elim (first_or (hears at bytes) (hears from datagram) steps has) [
   | inl same ↦ subst (λ (a : Act). Contains (came at bytes ∷ acts_of steps) a) (ap coming same) (first_is (came at bytes) (acts_of steps))

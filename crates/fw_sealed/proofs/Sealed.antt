@@ -7,7 +7,7 @@ use Rattle.fw_rollout.specs.Leading.{Leader, Step, hears}
 use Rattle.fw_world.specs.declared.datagram.Direction.{Direction}
 use Rattle.fw_world.specs.declared.datagram.Direction.TheVariants.{ToMeter, ToHead}
 use Rattle.fw_field.specs.Field.{Field}
-use Rattle.fw_field.specs.Moves.{Move, round, kill_meter, step, open_campaign, cancel_campaign, give_up, kill_head, Goes, MovesLead, HearsAt, IsKilledAt, IsKilledIn, StepsAt, Comes, StartsAgain, Tears, WasSent}
+use Rattle.fw_field.specs.Moves.{Move, round, kill_meter, step, open_campaign, cancel_campaign, give_up, ask_others, kill_head, Goes, MovesLead, HearsAt, IsKilledAt, IsKilledIn, StepsAt, Comes, StartsAgain, Tears, WasSent}
 use Rattle.fw_field.specs.Laws.{AfterMoves, SentStays}
 use Rattle.fw_sealed.specs.Links.{Links, Seal, SealsWhatIsSent, NoneForged, IsGenuine, CameSealed, plain_of}
 use Rattle.fw_sealed.specs.Moves.{SealedField, SealedMove, moves_on, seals_one, arrives, counts, IsSealedBeginning, CameToMeterFrom, HearsSealed, TearsSealed, StartsSealed, IsKilledSealed, IsKilledHearing, ComesSealed, StepsSealed, GoesSealed, SealedGoes, SealedMovesLead, field_moves}
@@ -108,6 +108,7 @@ module _ (addresses : ℕ → List SocketAddr) (links : Links) (seals : List Sea
   goes (open_campaign campaign release image meters) new g = g
   goes (cancel_campaign campaign) new g = g
   goes (give_up number meter) new g = g
+  goes (ask_others number meters) new g = g
   goes (kill_head number) new g = g
 
 -- ---- links stay sealed

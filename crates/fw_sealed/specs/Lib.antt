@@ -4,3 +4,4 @@ pub mod Ports
 pub mod Moves
 pub mod Counting
 pub mod Laws
+pub mod Rollouts

@@ -14,7 +14,7 @@ use Rattle.fw_world.specs.Step.{activated, replies}
 use Rattle.fw_world.specs.declared.datagram.Direction.{Direction}
 use Rattle.fw_world.specs.declared.datagram.Direction.TheVariants.{ToMeter, ToHead}
 use Rattle.fw_field.specs.Field.{Field, Has, IsBeginning, with_daemon, with_leader}
-use Rattle.fw_field.specs.Moves.{Move, round, kill_meter, step, open_campaign, cancel_campaign, give_up, kill_head, TurnsAt, TakesAs, GoesOut, told_by, OpensAt, CancelsAt, GivesRowUp, HeadIsKilledAt, to_meter}
+use Rattle.fw_field.specs.Moves.{Move, round, kill_meter, step, open_campaign, cancel_campaign, give_up, ask_others, kill_head, TurnsAt, TakesAs, GoesOut, told_by, OpensAt, CancelsAt, GivesRowUp, AsksOthers, HeadIsKilledAt, to_meter}
 use Rattle.fw_sealed.specs.Links.{Links, Seal, CameSealed, IsGenuine, plain_of, sealer}
 
 pub record SealedField : Type 0 where
@@ -123,6 +123,7 @@ GoesSealed addresses links arrived old (step number made) new = StepsSealed link
 GoesSealed addresses links arrived old (open_campaign campaign release image meters) new = OpensAt old campaign release image meters new
 GoesSealed addresses links arrived old (cancel_campaign campaign) new = CancelsAt old campaign new
 GoesSealed addresses links arrived old (give_up number meter) new = GivesRowUp old number meter new
+GoesSealed addresses links arrived old (ask_others number meters) new = AsksOthers old number meters new
 GoesSealed addresses links arrived old (kill_head number) new = HeadIsKilledAt old number new
 
 -- ---- moves

@@ -11,6 +11,8 @@ ghost use Rattle.fw_world.specs.Headline.{
 };
 ghost use Rattle.fw_field.specs.Field.{world_of};
 ghost use Rattle.fw_field.specs.Laws.{ReportsAreTrue};
+ghost use Rattle.fw_field.specs.Rollouts.{any_list};
+ghost use Rattle.fw_rollout.specs.Rollout.{no_other};
 ghost use Rattle.fw_port.specs.declared.port.NoReport.{NoReport};
 ghost use Rattle.fw_rollout.specs.declared.ended.Ended.{Ended};
 ghost use Rattle.fw_sealed.specs.Counting.{CountersRise};
@@ -28,6 +30,7 @@ ghost use Rattle.fw_sealed.specs.Laws.{
   SealedLeadingIsMoves,
   SealedToldIsTrue,
 };
+ghost use Rattle.fw_sealed.specs.Rollouts.{SealedRolloutIsMoves, SealedRolloutToldIsTrue};
 
 /// Whatever comes from the network, if nothing of it was forged, daemons behind sealing ports make moves of a field.
 pub fn sealed_moves_are_moves()
@@ -122,4 +125,22 @@ pub fn sealed_told_is_true()
     links_stay_sealed();
     sealed_moves_are_moves();
     fw_field::laws::told_is_true();
+}
+
+/// Whatever a head end does in a rollout behind a sealing port is moves of the field.
+pub fn sealed_rollout_is_moves()
+    ensures one { SealedRolloutIsMoves no_other }
+    ensures any { SealedRolloutIsMoves any_list }
+{
+    fw_field::laws::rollout_is_moves();
+}
+
+/// What a head end reports as done in a rollout behind a sealing port is done safely in the field that the rollout leads to.
+pub fn sealed_rollout_told_is_true()
+    ensures one { SealedRolloutToldIsTrue no_other }
+    ensures any { SealedRolloutToldIsTrue any_list }
+{
+    links_stay_sealed();
+    sealed_moves_are_moves();
+    fw_field::laws::rollout_told_is_true();
 }

@@ -1,8 +1,7 @@
 //! The daemon of a meter over a port in memory: what it does, of what comes.
 
-use fw_daemon::{Dropped, MeterDaemon, Watch, serve_list};
+use fw_daemon::{Dropped, MeterDaemon, MeterEvent, Watch, serve_list};
 use fw_meter::MeterCore;
-use fw_names::ImageName;
 use fw_port::{Datagram, Deed, NoReport};
 use fw_store::MemoryStore;
 use std::alloc::Global;
@@ -42,13 +41,7 @@ struct Seen {
 }
 
 impl Watch for Seen {
-    fn round(
-        &mut self,
-        _activated: Option<ImageName>,
-        dropped: Dropped,
-        faults: u64,
-        _unopened: u64,
-    ) {
+    fn round(&mut self, _event: Option<MeterEvent>, dropped: Dropped, faults: u64, _unopened: u64) {
         self.rounds = self.rounds.saturating_add(1);
         self.last = Some((dropped, faults));
     }

@@ -2,10 +2,12 @@
 
 use crate::setting::{coming, listed, new_daemon, number_of, planned_daemon, push_ended};
 use crate::subject::Subject;
+use fw_head::HeadCore;
 use fw_plan::{Deadline, Window};
-use fw_port::{Arrival, Closed, Datagram, Deed, Patience, Port};
+use fw_port::{Arrival, Closed, Datagram, Deed, ListPort, Patience, Port, Rule};
 use fw_rollout::{
-    Counts, Ended, HeadPort, HeadWatch, Leg, MeterList, Plan, Stop, lead_list, step_head,
+    Counts, Ended, HeadPort, HeadWatch, Leg, MeterList, Plan, Stop, Stuck, lead_list, serve_plan,
+    step_head,
 };
 use std::alloc::Global;
 use std::net::SocketAddr;
@@ -128,12 +130,70 @@ const PAUSES: &str = "
     due 568000                        => (1, 1) c301c6001200002c0000ff010102020929010000000700000001ba7816bf8f01cfea414140de5dae2223b00361a396177a9cb410ff61f20015ad0600000003
 ";
 
+/// Meter 1 has all blocks, and doesn't verify them: it answers that this failed for now, and that the transfer goes on. The second time it gets
+/// nowhere, so its row rests for a second, and then for two. It is looked at each half second. Then the meter lacks a block and takes it, which
+/// is one more than in the lap before, so its row rests for four seconds. Then it lacks none, and the row goes on at once; and as it takes none
+/// once more, though it says that it lacks one, the row rests for a second.
+const GETS_NOWHERE: &str = "
+    due 108000                         => (1, 1) c301c6001200002c0000ff03010f00
+    comes 109000 1 c701c60200          => Moved
+    due 113999                         =>
+    due 114000                         => (1, 1) c001c7001200002c0000ff0600
+    comes 115000 1 c401c7001601        => Moved
+    due 115000                         => (1, 1) c001c8001200002c0000ff0400
+    comes 116000 1 c401c8000600000002  => Moved
+    due 116000                         => (1, 1) c301c9001200002c0000ff03010f00
+    comes 117000 1 c701c90200          => Moved
+    due 122000                         => (1, 1) c001ca001200002c0000ff0600
+    comes 123000 1 c401ca001601        => Moved
+    stuck                              => 1 Poll
+    due 123000                         => waits
+    stuck                              =>
+    due 123000                         =>
+    due 622999                         =>
+    due 623000                         => waits
+    due 1122999                        =>
+    due 1123000                        => (1, 1) c001cb001200002c0000ff0400
+    comes 1124000 1 c401cb000600000002 => Moved
+    due 1124000                        => (1, 1) c301cc001200002c0000ff03010f00
+    comes 1125000 1 c701cc0200         => Moved
+    due 1130000                        => (1, 1) c001cd001200002c0000ff0600
+    comes 1131000 1 c401cd001601       => Moved
+    due 1131000                        => waits
+    due 3130999                        => waits
+    due 3630998                        =>
+    due 3630999                        => (1, 1) c001ce001200002c0000ff0400
+    comes 3631000 1 c401ce000600000000 => Moved
+    due 3631000                        => (1, 1) c001cf001200002c0000ff0300
+    comes 3632000 1 c401cf00040280     => Moved
+    due 3632000                        => (1, 1) c301c0001200002c0000ff020102020600000001090163
+    comes 3633000 1 c701c00000         => Moved
+    stuck                              => 1 Blocks
+    due 3633000                        => waits
+    due 7633000                        => (1, 1) c001c1001200002c0000ff0400
+    comes 7634000 1 c401c1000600000000 => Moved
+    due 7634000                        => (1, 1) c001c2001200002c0000ff0300
+    comes 7635000 1 c401c2000402c0     => Moved
+    stuck                              =>
+    due 7635000                        => (1, 1) c001c3001200002c0000ff0400
+    comes 7636000 1 c401c3000600000000 => Moved
+    due 7636000                        => (1, 1) c001c4001200002c0000ff0300
+    comes 7637000 1 c401c4000402c0     => Moved
+    stuck                              => 1 Gaps
+    due 7637000                        => waits
+    due 8137000                        => waits
+    due 8636999                        =>
+    due 8637000                        => (1, 1) c001c5001200002c0000ff0400
+    counts                             => Counts { live: 1, done: 0, failed: 1, sent: 23, received: 23, resends: 0, strangers: 1 }
+";
+
 #[test]
 fn daemon_leads_two_meters(rt: HostRuntime) -> Result<(), Fail> {
     let alloc = rt.alloc();
     // Each with the most datagrams that may be out.
     let sessions: &[(u64, &[&str])] = &[
         (64, &[FAILS, TAKES, RUNS, IS_OVER]),
+        (64, &[FAILS, TAKES, GETS_NOWHERE]),
         (64, &[SILENCES, ANSWERS]),
         (64, &[SILENCES, PAUSES]),
         (1, &[ONE_OUT]),
@@ -326,7 +386,15 @@ struct Seen {
 }
 
 impl HeadWatch for Seen {
-    fn round(&mut self, _now: u64, counts: Counts, faults: u64, _unopened: u64) {
+    fn round(
+        &mut self,
+        _now: u64,
+        counts: Counts,
+        faults: u64,
+        _unopened: u64,
+        _head: &HeadCore,
+        _stuck: Option<Stuck>,
+    ) {
         self.rounds = self.rounds.saturating_add(1);
         self.last = (counts.done, counts.failed, faults);
     }
@@ -346,4 +414,61 @@ fn daemon_leads_two_meters_over_a_port(rt: HostRuntime) -> Result<(), Fail> {
     expect_at(alloc, "the deeds", text.as_str(), DEEDS)?;
     assert_eq!(rt; (watch.rounds, watch.last), (14, (1, 1, 0)));
     Ok(())
+}
+
+/// The rule of a port that lets through what some head end does in a rollout of one list.
+#[derive(Drop)]
+struct OfRollout;
+
+impl Rule<Ended> for OfRollout {
+    ghost use Rattle.std.specs.Prelude.{◌≡◌, List};
+    ghost use Rattle.fw_rollout.specs.Leading.{Leader, acts_of};
+    ghost use Rattle.fw_rollout.specs.Rollout as rollout;
+
+    ghost allows = { λ done. (start : Leader) × (deeds : List rollout.Deed) × (now : Leader)
+        × rollout.RollsOut rollout.no_other start deeds now × (done ≡ acts_of (rollout.steps_of deeds)) };
+}
+
+/// What is sent and reported where both are silent: the number of each address, and the rows.
+const GIVES_BOTH_UP: &str =
+    "to 1, to 2, 1 Failed End { at: 0, reason: Some(Reason { phase: Size, answer: Silent }) };\
+     2 Failed End { at: 0, reason: Some(Reason { phase: Size, answer: Silent }) };";
+
+/// Both meters are asked, and are silent as soon as they are waited for no longer. What is known of the port: whatever is sent and reported is
+/// what a head end does in a rollout.
+#[test]
+fn silent_meters_are_given_up_over_a_port(rt: HostRuntime) -> Result<(), Fail> {
+    let alloc = rt.alloc();
+    let at_once = Plan {
+        deadline: Deadline::Hours(0),
+        ..Plan::FREE
+    };
+    let mut coming = Vec::new(alloc);
+    for _ in 0..400 {
+        coming.push(None)?;
+    }
+    let mut watch = Seen {
+        rounds: 0,
+        last: (0, 0, 0),
+    };
+    let mut daemon = planned_daemon(alloc, 64, at_once)?;
+    let mut port = ListPort::<HostRuntime, Ended, OfRollout>::new(&rt, alloc, coming);
+    serve_plan(&rt, &mut port, &mut daemon.0, false, &mut watch)?;
+    let text = sayings_of(alloc, &port.into_deeds())?;
+    expect_at(alloc, "what it said", text.as_str(), GIVES_BOTH_UP)?;
+    assert_eq!(rt; watch.last, (0, 2, 0));
+    Ok(())
+}
+
+/// What was sent and reported.
+fn sayings_of(alloc: Global, deeds: &[Deed<Ended>]) -> Result<String, Fail> {
+    let mut text = String::new(alloc);
+    for deed in deeds {
+        match deed {
+            Deed::Came(_) | Deed::Quiet => {}
+            Deed::Sent(datagram) => write!(text, "to {}, ", number_of(datagram.address))?,
+            Deed::Told(ended) => push_ended(&mut text, ended)?,
+        }
+    }
+    Ok(text)
 }

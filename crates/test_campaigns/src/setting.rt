@@ -31,6 +31,7 @@ use test_tables::{Kept, Reads, Words};
 /// - `comes TIME ADDRESS APDU`, from the address of this number: what comes of it. The date is as for `gives-up`
 /// - `save-due TIME`: whether the rows that ended are to be put on the device at this time
 /// - `saved`, which puts them there: which they are
+/// - `stuck`: which meter's row got nowhere by the datagram that came last, and the phase that it came from, if one did
 /// - `over`: whether all is over
 /// - `counts`: how far it is
 impl Reads for Subject<HeadDaemon<MemoryDevice>> {
@@ -58,6 +59,7 @@ impl Reads for Subject<HeadDaemon<MemoryDevice>> {
                 Ok(format!(in alloc; "{is_due}")?)
             }
             "saved" => saved_text(alloc, daemon),
+            "stuck" => stuck_text(alloc, daemon),
             "over" => Ok(format!(in alloc; "{}", daemon.is_over())?),
             "counts" => Ok(format!(in alloc; "{:?}", daemon.counts())?),
             _ => Err("a daemon takes no such step".into()),
@@ -111,6 +113,13 @@ fn saved_text(alloc: Global, daemon: &mut HeadDaemon<MemoryDevice>) -> Result<St
         push_ended(&mut text, ended)?;
     }
     Ok(text)
+}
+
+fn stuck_text(alloc: Global, daemon: &HeadDaemon<MemoryDevice>) -> Result<String, Fail> {
+    match daemon.stuck() {
+        Some(stuck) => Ok(format!(in alloc; "{} {:?}", stuck.meter.number(), stuck.from)?),
+        None => Ok(String::new(alloc)),
+    }
 }
 
 /// Appends a row that ended, with when and why, and with a semicolon after it.

@@ -14,6 +14,8 @@ mod comparing;
 #[cfg(test)]
 mod counters;
 #[cfg(test)]
+mod events;
+#[cfg(test)]
 mod faults;
 #[cfg(test)]
 mod handling;

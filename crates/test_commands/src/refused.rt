@@ -3,7 +3,7 @@
 
 use fw_blocks::Width;
 use fw_book::BookError;
-use fw_cli::{HeadOptions, MeterFault, MeterOptions, run_head, run_meter};
+use fw_cli::{HeadOptions, HeadTold, MeterFault, MeterOptions, run_head, run_meter};
 use fw_disk::{Because, Cause, Name};
 use fw_faults::Fault;
 use fw_host::{BookOptions, NewMeter, Opening, ProgressOutput};
@@ -146,11 +146,17 @@ fn head_of<'paths, R: Files<File = File> + Clock + Net + Wait + Eprint>(
         captures_strangers: false,
         sealing: None,
     };
+    let told = HeadTold {
+        events: None,
+        rows: None,
+        metrics: None,
+    };
     match run_head(
         rt,
         alloc,
         &mut Vec::new(alloc),
         ProgressOutput::Hidden,
+        &told,
         &options,
     ) {
         Ok(_) => Err(Fail::from("it ends well")),

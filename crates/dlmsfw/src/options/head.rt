@@ -74,8 +74,8 @@ A row is asked when nothing of it is outstanding, or after four times its last r
 its meter, up to a minute. No more than --flight datagrams are out at once, or those of one row.
 
 With --activate-from no image is activated before that time: a row whose image is verified waits for it.
-With --give-up-after a row is given up whose meter was asked, and from which nothing came for so many hours
-since; if the head end is ended and run again, these hours begin anew.
+With --give-up-after a row is given up once its meter was silent for so many hours, though it was asked. With
+each run of the head end these hours begin anew.
 
 With --capture CAPTURE all that is received and sent is appended to CAPTURE, as `meter --help` says it. A
 stranger's datagram is one from an address that is not in LIST.
@@ -96,12 +96,27 @@ the first:
   over done D failed F                   no row is live; in this run D rows were done, and F failed
 
 Of each campaign that has live rows from an earlier run standard error says at the start
-`going on with campaign HEAD SERIAL: L live, D done, F failed`. Then it shows how many rows of the wave are
-live, and how many of this run are done and failed; how many datagrams a second went and came
-(datagrams/s); and how often in this run a row was asked again since no answer came (resends), a datagram
-came from elsewhere (strangers), and the socket failed (faults); with --keys also how many datagrams weren't
-let through (unopened), where there were any. A terminal shows it in one line, anew each second. Elsewhere
-it is a line each --every SECONDS in which a datagram went or came.
+`going on with campaign HEAD SERIAL: L live, D done, F failed`. Then it shows how far the head end is, as
+`12k/51k blocks 24%, 48 live, 2 done, 0 failed, 1240/s, 3% again, ~41s`: how many blocks the meters of live
+rows have, from the first one on, of those that they need, once they told their block size (k: thousands,
+M: millions); how many rows of the wave are live, and how many of this run are done and failed; how many
+datagrams a second went and came; how often in this run a row was asked again since no answer came, for a
+hundred datagrams sent; and about how long the other blocks take. Then come those that were dropped, if any
+were: datagrams from elsewhere (strangers), failures of the socket (faults), and with --keys datagrams that
+weren't let through (unopened). A terminal shows it in one line, anew each second, as far as there is room.
+Elsewhere it is a line each --every SECONDS in which a datagram went or came. A row that gets nowhere is told
+in a line of its own, as `row 7 1 3 no progress: verify 2, status 1`, and rests, a minute at most; with
+--every 0 it rests untold.
+
+With --events EVENTS each of these lines but the first has an event in EVENTS, an object of JSON on a line,
+and so have the start, the campaigns that it goes on with, a row that gets nowhere, how far it is, each
+minute, and a fault that ends it. A row has its reason there. Rows of FILE that ended without an event get
+one at the start, so after a kill none is missing, and none is told twice. EVENTS is made if it isn't there,
+and goes on behind its last whole line. An event that can't be written is lost; that of a row comes with the
+next start.
+With --metrics METRICS a page in Prometheus' text format is in METRICS, as node_exporter's textfile collector
+reads it: rows by campaign and state, datagrams each way, resends, strangers, and failures of the socket. It
+is replaced whole, by way of METRICS.new. A file that is neither is left as it is, and is Output.
 
 Example, in two terminals, an image for the meter at port 4059:
 
@@ -165,7 +180,8 @@ Exit status:
        CaptureFault    CAPTURE can't be made, opened or written; `meter --help` has the causes
        ForeignCapture  CAPTURE is there, and isn't a capture that a meter or a head end began, or a
                        packet before its end is damaged
-       Output          the first line can't be written to standard output
+       Output          the first line can't be written to standard output, or EVENTS or METRICS can't be
+                       made, opened or written
        OutOfMemory     the system gives no more memory
      Of a row whose end the disk doesn't have nothing was printed.
   2  a wrong command line: standard error says what is wrong
@@ -243,6 +259,18 @@ const MANUAL: &Manual = &Manual {
         DAEMON_CAPTURE,
         DAEMON_CAPTURE_STRANGERS,
         CommandOption {
+            name: "events",
+            takes: Takes::Text("EVENTS"),
+            presence: Presence::Optional,
+            help: "The file that what happens is appended to, an object of JSON a line",
+        },
+        CommandOption {
+            name: "metrics",
+            takes: Takes::Text("METRICS"),
+            presence: Presence::Optional,
+            help: "The file that has a page of metrics for Prometheus, written anew each 15 seconds",
+        },
+        CommandOption {
             name: "open",
             takes: Takes::Within("SERIAL", 1, u32::MAX),
             presence: Presence::With("image"),
@@ -276,7 +304,7 @@ const MANUAL: &Manual = &Manual {
             name: "give-up-after",
             takes: Takes::Within("HOURS", 1, 87_600),
             presence: Presence::Optional,
-            help: "Gives up the rows of meters that are silent for so many hours, 1 to 87600; without this option none",
+            help: "Gives up the row of a meter that is silent for so many hours though it is asked, 1 to 87600; without this option none",
         },
         CommandOption {
             name: "cancel",
@@ -335,6 +363,8 @@ pub(super) fn invoked<'a>(
     let shown = HeadShown {
         every,
         cancel: given.get_str("cancel"),
+        events: given.get_str("events"),
+        metrics: given.get_str("metrics"),
     };
     Ok(Some(Invocation::Head(options, shown)))
 }

@@ -64,15 +64,25 @@ Standard output gets these lines, each at once, of which one that can't be writt
 the first:
 
   listening ADDR:PORT                          datagrams are received there
-  activated HEAD SERIAL RELEASE DIGEST         the meter switched to this image: the head end and the
-                                               serial number of its campaign, its release, and its
-                                               SHA-256 in lower-case hexadecimal; with --count it begins
-                                               with `meter K`
+  refused HEAD SERIAL RELEASE SIZE: WHY        an image_transfer_initiate was refused: the head end and the
+                                               serial number of the campaign of the image, its release,
+                                               its size in bytes, and why, as `trace` has it; where it
+                                               has no name, `- - -` stands in its place
+  store failed at WHAT                         hardware-fault was answered, or a verification given up:
+                                               WHAT is enable, initiate, block N, verify or activate
+  verified HEAD SERIAL RELEASE DIGEST          the image is there and has this SHA-256, in lower-case
+                                               hexadecimal
+  differs HEAD SERIAL RELEASE DIGEST           it is there, and hasn't
+  activated HEAD SERIAL RELEASE DIGEST         the meter switched to it
   dropped strangers S unserved U faults F      where these grew, once a minute at most: the datagrams
                                                from addresses that may not ask, those for which memory
                                                was refused, and how often the socket failed, since the
-                                               meter was started; with --keys, `unopened N` at its end says
+                                               meter was started; with --keys, `unopened N` after it says
                                                how many weren't let through, where there were any
+
+With --count all but the first and the last kind begin with `meter K`. Of a request that asks for no
+response only what it verified or activated is told. Of `refused` and `store failed` there are 60 lines a
+minute at most; `untold N` at the end of `dropped ..` says how many were left out.
 
 Example, in two terminals, a GET of image_transfer_status, which is 0 in a new meter:
 

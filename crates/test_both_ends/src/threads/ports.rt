@@ -55,8 +55,8 @@ fn a_meter_polls(rt: HostRuntime) -> Result<(), Fail> {
     let alloc = rt.alloc();
     let mut port = UdpPort::bind_polling(&rt, here())?;
     let mut daemon = daemon_for(alloc, here())?;
-    let activated = step(alloc, &mut port, &mut daemon)?;
-    assert!(rt; activated.is_none());
+    let event = step(alloc, &mut port, &mut daemon)?;
+    assert!(rt; event.is_none());
     let digest = hex::encode(alloc, daemon.into_meter().active().digest)?;
     assert!(rt; FACTORY_NAME.ends_with(digest.as_str()));
     Ok(())

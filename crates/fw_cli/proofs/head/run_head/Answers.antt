@@ -1,4 +1,4 @@
-use Rattle.std.proofs.Common.{◌≡◌, ◌∙◌, ℕ, List, ap, refl, subst, sym}
+use Rattle.std.proofs.Common.{◌≡◌, ◌∙◌, inr, ℕ, List, ap, refl, subst, sym}
 use Rattle.std.proofs.lemmas.Result.{err_from_is_err_and}
 use Rattle.fw_kept.specs.Head.{book_of}
 use Rattle.fw_plan.specs.Openings.{unlisted}
@@ -52,6 +52,18 @@ returns-in_err-begin-clause-faults g c =
     let same : passed.0.error ≡ c.in_err-begin.field-0.0.error = cc passed.2 in
     let is = beginning c.args.options.now _ c.take.result c.in_err-begin.field-0.0.error (cancels_asked _ _ _ _ _ c.in_ok-port.ensures.changes) (λ some. c.in_ok-port.ensures.opened (rw c.take.ensures.value at some)) c.in_err-begin.ensures.faults in
     passed_because c.from_residual-in_err-begin.result IsOfHead passed.0 _ passed.1 same is.of_head
+
+pub returns-in_err-waves-clause-asked : goal.returns-in_err-waves-clause-asked
+returns-in_err-waves-clause-asked g c =
+    let passed = err_from_is_err_and c.from_residual-in_err-waves.result c.from_residual-in_err-waves.ensures.1 in
+    let same : passed.0.error ≡ c.in_err-waves.field-0.0 = passed.2.0 in
+    passed_because c.from_residual-in_err-waves.result (IsAskedFor c.args.options.now) passed.0 _ passed.1 same (line_lost c.args.options.now _ (inr c.in_err-waves.ensures.faults)).asked
+
+pub returns-in_err-waves-clause-faults : goal.returns-in_err-waves-clause-faults
+returns-in_err-waves-clause-faults g c =
+    let passed = err_from_is_err_and c.from_residual-in_err-waves.result c.from_residual-in_err-waves.ensures.1 in
+    let same : passed.0.error ≡ c.in_err-waves.field-0.0 = passed.2.0 in
+    passed_because c.from_residual-in_err-waves.result IsOfHead passed.0 _ passed.1 same (line_lost c.args.options.now _ (inr c.in_err-waves.ensures.faults)).of_head
 
 pub returns-in-Ok-clause-led : goal.returns-in-Ok-clause-led
 returns-in-Ok-clause-led g c =

@@ -5,7 +5,7 @@ use Rattle.fw_daemon.specs.Rounds.{IsWatched}
 use Rattle.fw_daemon.specs.Serving.{Serves}
 use Rattle.fw_daemon.proofs.serving.serve.Given as goal
 
--- what was done so far is the daemon's, the port goes on to let through what is legal, and the switches were told
+-- what was done so far is the daemon's, the port goes on to let through what is legal, and the events were told
 abbrev pub invariant-loop : goal.invariant-loop
 invariant-loop g l =
     (goal.iterator-loop g).can_next l.iterator' × (goal.iterator-loop g).is_finite l.iterator'

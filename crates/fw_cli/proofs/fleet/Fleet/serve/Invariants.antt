@@ -2,7 +2,7 @@ use Rattle.std.proofs.Common.{◌≡◌}
 use Rattle.fw_cli.specs.Fleets.{AreWatched, daemons_of}
 use Rattle.fw_cli.proofs.fleet.Fleet.serve.Given as goal
 
--- the switches so far were told
+-- what happened so far was told
 abbrev pub invariant-loop : goal.invariant-loop
 invariant-loop g l =
     (goal.iterator-loop g).can_next l.iterator' × (goal.iterator-loop g).is_finite l.iterator'

@@ -2,8 +2,8 @@ use Rattle.std.proofs.Common.{true, false}
 use Rattle.fw_host.proofs.Tellings.{told_none}
 use Rattle.fw_cli.proofs.meter.Teller.tell_dropped.Goals as goal
 
-pub returns-then-unopened-self-clause-told : goal.returns-then-unopened-self-clause-told
-returns-then-unopened-self-clause-told g c = (false, told_none _ _)
+pub returns-then-untold-self-clause-told : goal.returns-then-untold-self-clause-told
+returns-then-untold-self-clause-told g c = (false, told_none _ _)
 
 pub returns-in_default-clause-told : goal.returns-in_default-clause-told
 returns-in_default-clause-told g c = (false, told_none _ _)

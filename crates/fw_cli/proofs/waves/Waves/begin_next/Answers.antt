@@ -4,6 +4,7 @@ use Rattle.fw_book.specs.Contents.{Contents}
 use Rattle.fw_kept.specs.Head.{book_of}
 use Rattle.fw_plan.specs.declared.gate.Gate.TheVariants as gate
 use Rattle.fw_cli.specs.Waves.{IsGateOf}
+use Rattle.fw_cli.proofs.Rollouts.{relisted}
 use Rattle.fw_cli.proofs.waves.Waves.begin_next.Goals as goal
 
 pub returns-in_err-wave-clause-stops : goal.returns-in_err-wave-clause-stops
@@ -30,3 +31,7 @@ pub returns-in_ok-relist-in-Over-clause-asks : goal.returns-in_ok-relist-in-Over
 returns-in_ok-relist-in-Over-clause-asks g c =
     let over = rw c.in-Over.is at c.in_ok-wave.ensures.gate in
     (subst (λ (book : Contents). IsGateOf c.args.self.now book gate.Over) (ap book_of (sym c.in_ok-relist-in-Over.ensures.kept)) over, c.in_ok-relist-in-Over.ensures.meters ∙ c.meters.ensures.meters)
+
+pub returns-in_ok-relist-in-Over-clause-led : goal.returns-in_ok-relist-in-Over-clause-led
+returns-in_ok-relist-in-Over-clause-led g c = λ leader led.
+    relisted _ _ _ c.relist.new.self _ leader c.in_ok-relist-in-Over.ensures.meters (c.in_ok-relist-in-Over.ensures.led leader led)

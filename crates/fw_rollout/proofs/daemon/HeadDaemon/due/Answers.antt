@@ -40,16 +40,16 @@ returns-then-is_silent-clause-resends g c = λ leader led. c.in_ok-place.ensures
 
 -- ---- a row waits
 
-pub returns-then-not-is_let-clause-ticks : goal.returns-then-not-is_let-clause-ticks
-returns-then-not-is_let-clause-ticks g c = λ leader led sent_all.
+pub returns-then-not-may_ask-clause-ticks : goal.returns-then-not-may_ask-clause-ticks
+returns-then-not-may_ask-clause-ticks g c = λ leader led sent_all.
     let due = rw c.in-Some.is at c.in_ok-place.ensures.due in
     let first = rw c.in-Some.is at c.in_ok-place.ensures.first in
     waits_on g.D.JournalDevice.honest g.D.JournalDevice.contents g.D.JournalDevice.may_leave c.args.self.now _ leader led refl refl
     (c.in_ok-hold.ensures.schedule (c.in_ok-place.ensures.schedule led.schedule) due first)
     (same_on c.args.self.now.schedule c.next.new.self c.hold.new.self (c.in_ok-place.ensures.same led.schedule) (c.in_ok-hold.ensures.same due))
 
-pub returns-then-not-is_let-clause-held : goal.returns-then-not-is_let-clause-held
-returns-then-not-is_let-clause-held g c =
+pub returns-then-not-may_ask-clause-held : goal.returns-then-not-may_ask-clause-held
+returns-then-not-may_ask-clause-held g c =
     let place = c.in-Some.place in
     let at : Listed = c.in-Some-at.listed in
     let same = c.in_ok-hold.ensures.same (rw c.in-Some.is at c.in_ok-place.ensures.due) in
@@ -57,16 +57,16 @@ returns-then-not-is_let-clause-held g c =
       place = place;
       at = at;
       there = ap (λ (ls : List Listed). slice_get ls place) same.listed ∙ listed_at (links_of c.next.new.self) place at (sym c.at.ensures ∙ c.in-Some-at.is);
-      held = λ is. false≢true (sym c.if-not-is_let.true ∙ c.is_let.ensures.1 is);
+      held = λ is. false≢true (sym c.if-not-may_ask.true ∙ c.may_ask.ensures.1 is);
     }
 
-pub returns-then-not-is_let-clause-queued : goal.returns-then-not-is_let-clause-queued
-returns-then-not-is_let-clause-queued g c = λ leader led place due.
+pub returns-then-not-may_ask-clause-queued : goal.returns-then-not-may_ask-clause-queued
+returns-then-not-may_ask-clause-queued g c = λ leader led place due.
     queued_once c.hold.new.self place
     (c.in_ok-hold.ensures.schedule (c.in_ok-place.ensures.schedule led.schedule) (rw c.in-Some.is at c.in_ok-place.ensures.due) (rw c.in-Some.is at c.in_ok-place.ensures.first)) due
 
-pub returns-then-not-is_let-clause-resends : goal.returns-then-not-is_let-clause-resends
-returns-then-not-is_let-clause-resends g c = λ leader led.
+pub returns-then-not-may_ask-clause-resends : goal.returns-then-not-may_ask-clause-resends
+returns-then-not-may_ask-clause-resends g c = λ leader led.
     subst (λ (n : ℕ). IsMore c.args.self.now.schedule.resends (resent_at c.args.now c.args.self.now) n) (sym c.in_ok-hold.ensures.resends) (c.in_ok-place.ensures.resends led.schedule)
 
 -- ---- memory is refused
@@ -111,7 +111,8 @@ returns-clause-plan g c = λ leader led.
     record {
       place = place;
       there = ap (λ (ls : List Listed). slice_get ls place) (sym same.listed) ∙ listed_at (links_of c.next.new.self) place at (sym c.at.ensures ∙ c.in-Some-at.is);
-      let_so = c.is_let.ensures.0 c.if-not-is_let.false;
+      let_so = (c.may_ask.ensures.0 c.if-not-may_ask.false).0;
+      rested = (c.may_ask.ensures.0 c.if-not-may_ask.false).1;
       heard = λ is. false≢true (sym c.if-is_silent.false ∙ c.is_silent.ensures.1 is);
       owes = c.asked.ensures;
     }

@@ -1,5 +1,6 @@
-use Rattle.std.proofs.Common.{rules, ◌≡◌, inl, inr, ℕ, true, is_some, [], ◌∷◌, ◌++◌, List, refl, sym, ap, subst, ◌∙◌}
+use Rattle.std.proofs.Common.{rules, ◌≡◌, inl, inr, ℕ, true, is_some, [], ◌∷◌, ◌++◌, List, Option, None, refl, sym, ap, subst, ◌∙◌}
 use Rattle.fw_book.specs.declared.notes.End.{End}
+use Rattle.fw_book.specs.declared.phase.Phase.{Phase}
 use Rattle.fw_head.specs.Head.{Head, HeadHears, IsHead, TellsReason, row_of}
 use Rattle.fw_head.specs.declared.news.News.{News}
 use Rattle.fw_head.specs.declared.news.News.TheVariants as news
@@ -8,7 +9,9 @@ use Rattle.fw_ledger.specs.declared.record.Ending.TheVariants as ends
 use Rattle.fw_rollout.specs.declared.ended.Ended.{Ended}
 use Rattle.fw_rollout.specs.Daemon.{since_with}
 use Rattle.fw_rollout.specs.Early.{IsAnswerOf}
+use Rattle.fw_rollout.specs.Laps.{lap_in, laps_gone, laps_of}
 use Rattle.fw_rollout.specs.Leading.{ended_by, heard_of}
+use Rattle.fw_rollout.specs.Plans.{phase_at, stuck_by}
 use Rattle.fw_rollout.proofs.Daemons.{ended_on, is_listed, moved_live, moved_on, nothing_on, stranger_on}
 use Rattle.fw_rollout.proofs.Hearing.{done_noted, noted_as, row_done, row_failed, row_moved, row_wanted}
 use Rattle.fw_rollout.proofs.Rounds.{at_err}
@@ -92,7 +95,7 @@ returns-in-Nothing-clause-hears g c = λ leader led.
     let tells = subst (λ (m : ℕ). TellsReason (head_of c.args.self.now.kept) m c.args.datagram.now c.in_ok-news.field-0.news c.in_ok-news.field-0.reason) (search rules) c.in_ok-news.ensures.reason in
     let heard = subst (λ (m : ℕ). HeadHears (head_of c.args.self.now.kept) m c.args.datagram.now c.in_ok-news.field-0.news (head_of c.hear.new.self)) (search rules) c.in_ok-news.ensures.heard in
     nothing_on g.D.JournalDevice.honest g.D.JournalDevice.contents g.D.JournalDevice.may_leave c.args.self.now
-    (record c.args.self.now { kept = c.hear.new.self; ended = c.make_room.new.ended; counts = record c.args.self.now.counts { received = c.count-2.new.counter }; contacts = c.heard.new.self }) leader led c.in-Some.place c.in-Some.meter c.args.from
+    (record c.args.self.now { kept = c.hear.new.self; ended = c.make_room.new.ended; counts = record c.args.self.now.counts { received = c.count-2.new.counter }; contacts = c.heard.new.self; stuck = None }) leader led c.in-Some.place c.in-Some.meter c.args.from
     (c.in-Some.ensures.found led.schedule) c.args.datagram.now c.in_ok-news.field-0.news how heard tells (c.in_ok-news.ensures.waits leader.synced led.holds) c.in-Nothing.is c.make_room.ensures.items refl
 
 pub returns-in_ok-answered-in-Moved-clause-hears : goal.returns-in_ok-answered-in-Moved-clause-hears
@@ -105,7 +108,7 @@ returns-in_ok-answered-in-Moved-clause-hears g c = λ leader led.
     let live = moved_live g.D.JournalDevice.honest g.D.JournalDevice.contents g.D.JournalDevice.may_leave c.args.self.now (record c.args.self.now { kept = c.hear.new.self }) leader led c.in-Some.place c.in-Some.meter
     c.args.from there c.args.datagram.now c.in_ok-news.field-0.news how heard tells holds c.in-Moved.is in
     moved_on g.D.JournalDevice.honest g.D.JournalDevice.contents g.D.JournalDevice.may_leave c.args.self.now
-    (record c.args.self.now { kept = c.hear.new.self; schedule = c.answered.new.self; ended = c.make_room.new.ended; counts = record c.args.self.now.counts { received = c.count-2.new.counter }; contacts = c.heard.new.self }) leader led c.in-Some.place
+    (record c.args.self.now { kept = c.hear.new.self; schedule = c.answered.new.self; ended = c.make_room.new.ended; counts = record c.args.self.now.counts { received = c.count-2.new.counter }; contacts = c.heard.new.self; laps = c.go.new.self; stuck = c.stuck_row-self.result }) leader led c.in-Some.place
     c.in-Some.meter c.args.from there c.args.datagram.now c.in_ok-news.field-0.news how heard tells holds c.in-Moved.is c.make_room.ensures.items (c.in_ok-answered-in-Moved.ensures.schedule led.schedule live) (c.in_ok-answered-in-Moved.ensures.same live)
 
 pub returns-in_ok-end_row-in-Done-clause-hears : goal.returns-in_ok-end_row-in-Done-clause-hears
@@ -147,6 +150,40 @@ returns-in_ok-answered-in-Moved-clause-takes g c = λ leader led moved. record {
   leaves = subst (λ (m : ℕ). IsAnswerOf (head_of c.hear.new.self) m c.args.datagram.now c.in_ok-answer-in-Moved.answer) (search rules) c.in_ok-answer-in-Moved.ensures;
   goes_on = c.in_ok-answered-in-Moved.ensures.answered;
 }
+
+-- ---- how the row is getting on
+
+pub returns-in_default-clause-laps : goal.returns-in_default-clause-laps
+returns-in_default-clause-laps g c = λ leader led. (refl, refl)
+
+pub returns-in-Nothing-clause-laps : goal.returns-in-Nothing-clause-laps
+returns-in-Nothing-clause-laps g c = λ leader led. (refl, refl)
+
+pub returns-in_ok-end_row-in-Done-clause-laps : goal.returns-in_ok-end_row-in-Done-clause-laps
+returns-in_ok-end_row-in-Done-clause-laps g c = λ leader led. (c.end_row.ensures.laps, c.end_row.ensures.stuck)
+
+pub returns-in_ok-end_row-in-Failed-clause-laps : goal.returns-in_ok-end_row-in-Failed-clause-laps
+returns-in_ok-end_row-in-Failed-clause-laps g c = λ leader led. (c.end_row-in-Failed.ensures.laps, c.end_row-in-Failed.ensures.stuck)
+
+pub returns-in_ok-answered-in-Moved-clause-laps : goal.returns-in_ok-answered-in-Moved-clause-laps
+returns-in_ok-answered-in-Moved-clause-laps g c = λ leader led.
+    let meter = c.in-Some.meter in
+    let laps = laps_of c.args.self.now.laps in
+    let was : c.phase_of-was.result ≡ phase_at (head_of c.args.self.now.kept) meter =
+    subst (λ (m : ℕ). c.phase_of-was.result ≡ phase_at (head_of c.args.self.now.kept) m) (search rules) c.phase_of-was.ensures in
+    let is : c.phase_of-is.result ≡ phase_at (head_of c.hear.new.self) meter =
+    subst (λ (m : ℕ). c.phase_of-is.result ≡ phase_at (head_of c.hear.new.self) m) (search rules) c.phase_of-is.ensures in
+    record {
+      place = c.in-Some.place;
+      meter = meter;
+      there = c.in-Some.ensures.found led.schedule;
+      gone = c.go.ensures
+          ∙ ap (λ (p : Option Phase). laps_gone c.in-Some.place c.args.now p c.phase_of-is.result laps) was
+          ∙ ap (λ (p : Option Phase). laps_gone c.in-Some.place c.args.now (phase_at (head_of c.args.self.now.kept) meter) p laps) is;
+      told = subst (λ (m : ℕ). c.stuck_row-self.result ≡ stuck_by (lap_in laps c.in-Some.place) (head_of c.hear.new.self) m c.phase_of-was.result c.phase_of-is.result) (search rules) c.stuck_row-self.ensures
+          ∙ ap (λ (p : Option Phase). stuck_by (lap_in laps c.in-Some.place) (head_of c.hear.new.self) meter p c.phase_of-is.result) was
+          ∙ ap (λ (p : Option Phase). stuck_by (lap_in laps c.in-Some.place) (head_of c.hear.new.self) meter (phase_at (head_of c.args.self.now.kept) meter) p) is;
+    }
 
 -- ---- since when rows wait
 

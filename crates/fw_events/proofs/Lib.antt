@@ -1,0 +1,5 @@
+pub mod Floatless
+pub mod Shallow
+pub mod OneLine
+pub mod Found
+pub mod Parts

@@ -1,0 +1,148 @@
+//! The file of a head end's events.
+
+use crate::capture_file::now;
+use crate::event_making::{FRONT, FRONT_LEN, new_events};
+use fw_disk::{Cause, Name, Reason, SystemFolder, open};
+use fw_events::{Event, ToldRows, event_line, fault_line};
+use fw_names::HeadId;
+use std::alloc::Global;
+use std::cell::Cell;
+use std::fs::File;
+use std::io::{BufRead, BufReader};
+use std::os::unix::fs::FileExt;
+use std::rt::{Clock, Files};
+
+/// The file of the events of a head end, under its lock. An event that can't be written is lost; that of a row the next run writes. Nothing
+/// is known of what the file holds.
+#[derive(Drop)]
+pub struct EventFile {
+    alloc: Global,
+    file: File,
+    head: HeadId,
+    /// Where the next line begins.
+    len: Cell<u64>,
+    /// Whether the disk may lack a line.
+    is_unsynced: Cell<bool>,
+    /// When the next event happens, in nanoseconds since 1970 began (UTC).
+    time: Cell<u64>,
+}
+
+impl EventFile {
+    /// The file at this path, and the rows of which it tells. It is made if nothing is there, and else gone on with behind its last whole line:
+    /// what a power cut left of another is cut off.
+    ///
+    /// # Errors
+    ///
+    /// Why the file can't be made, opened or read, or that it is another program's: it doesn't begin as one of events. It is left as it is.
+    pub fn open<R: Files<File = File> + Clock>(
+        rt: &R,
+        alloc: Global,
+        path: &str,
+        head: HeadId,
+    ) -> Result<(EventFile, ToldRows), Reason> {
+        match EventFile::open_at(rt, alloc, path, head) {
+            Ok(opened) => Ok(opened),
+            Err(cause) => Err(cause.at(Name::Main)),
+        }
+    }
+
+    /// The same, with the cause alone.
+    fn open_at<R: Files<File = File> + Clock>(
+        rt: &R,
+        alloc: Global,
+        path: &str,
+        head: HeadId,
+    ) -> Result<(EventFile, ToldRows), Cause> {
+        let mut folder = SystemFolder::of(rt, path)?;
+        let file = match open(&mut folder) {
+            Ok(file) => file,
+            Err(Cause::Missing) => new_events(&mut folder)?,
+            Err(cause) => return Err(cause),
+        };
+        check_front(&file)?;
+        let mut told = ToldRows::none(alloc, head);
+        let len = take_lines(alloc, &file, &mut told)?;
+        file.set_len(len)?;
+        file.sync_all()?;
+        let events = EventFile {
+            alloc,
+            file,
+            head,
+            len: Cell::new(len),
+            is_unsynced: Cell::new(false),
+            time: Cell::new(now(rt)),
+        };
+        Ok((events, told))
+    }
+
+    /// The events that follow happen now, by the clock of the system.
+    pub fn set_time<C: Clock>(&self, rt: &C) {
+        self.time.set(now(rt));
+    }
+
+    /// Appends an event.
+    pub fn tell(&self, event: Event) {
+        if let Ok(line) = event_line(self.alloc, self.time.get(), self.head, event) {
+            self.put(line.as_bytes());
+        }
+    }
+
+    /// Appends that a fault of this name ended the head end.
+    pub fn tell_fault(&self, name: &str) {
+        if let Ok(line) = fault_line(self.alloc, self.time.get(), self.head, name) {
+            self.put(line.as_bytes());
+        }
+    }
+
+    /// Puts what was appended on the disk. A failure is passed over: what a power cut takes then, the next run writes.
+    pub fn sync(&self) {
+        if self.is_unsynced.replace(false) {
+            let _ = self.file.sync_data();
+        }
+    }
+
+    /// Appends a line. What a call that fails leaves of it, the next line is written over. The first line is the start, as a file of events
+    /// begins: if that was lost, the others are too.
+    fn put(&self, line: &[u8]) {
+        let at = self.len.get();
+        if at == 0 && !line.starts_with(FRONT) {
+            return;
+        }
+        if self.file.write_all_at(line, at).is_ok() {
+            self.len.set(at.saturating_add(line.len() as u64));
+            self.is_unsynced.set(true);
+        }
+    }
+}
+
+/// Checks that a file has no byte, or begins as one of events, as far as it goes.
+fn check_front(file: &File) -> Result<(), Cause> {
+    let mut buffer = [0; FRONT_LEN];
+    let len = usize::try_from(file.metadata()?.len()).unwrap_or(usize::MAX);
+    let front = &mut buffer[..len.min(FRONT_LEN)];
+    file.read_exact_at(front, 0)?;
+    if FRONT.starts_with(front) {
+        Ok(())
+    } else {
+        Err(Cause::Foreign)
+    }
+}
+
+/// Takes the whole lines of a file, and returns where the last of them ends.
+fn take_lines(alloc: Global, file: &File, told: &mut ToldRows) -> Result<u64, Cause> {
+    let mut reader = BufReader::new(alloc, file)?;
+    let mut line = Vec::new(alloc);
+    let mut len: u64 = 0;
+    for _ in 0..u64::MAX {
+        line.clear();
+        let count = reader.read_until(b'\n', &mut line)?;
+        if line.pop() != Some(b'\n') {
+            return Ok(len);
+        }
+        len = len.saturating_add(count as u64);
+        if let Ok(text) = str::from_utf8(&line) {
+            told.take(alloc, text)?;
+        }
+    }
+    Ok(len)
+}

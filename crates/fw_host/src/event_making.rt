@@ -1,0 +1,56 @@
+//! The file of new events.
+
+ghost use Rattle.std.specs.Prelude.{◌≡◌, [], IsTrue, IfOk};
+ghost use Rattle.fw_disk.specs.declared.name.Name.TheVariants.{Main};
+ghost use Rattle.fw_disk.specs.Ours.{IsNamed};
+
+use fw_disk::{Cause, Folder, Kind, Name, abandon, begin, finish};
+
+/// How many bytes a file of events begins with that others don't.
+pub(crate) const FRONT_LEN: usize = 26;
+
+/// What these are: its first event is the start of a head end.
+pub(crate) const FRONT: &[u8; FRONT_LEN] = b"{\"event\":\"started\",\"head\":";
+
+/// A file of events that is begun: it has no byte.
+#[derive(Clone, Copy)]
+struct BegunEvents;
+
+impl Kind for BegunEvents {
+    ghost use Rattle.fw_host.specs.Events.{IsEmpty, none_is_empty, front_is_empty};
+
+    ghost ours = { λ _. IsEmpty };
+
+    ghost first = { λ _. 0 };
+
+    fn is_ours(&self, _front: &[u8], len: u64) -> bool {
+        len == 0
+    }
+
+    fn first(&self) -> usize {
+        0
+    }
+
+    ghost small = { λ _. none_is_empty };
+
+    ghost fronts = { λ _. front_is_empty };
+}
+
+/// Makes a file without bytes, if nothing is FILE: as FILE.new, which is named FILE then.
+///
+/// # Errors
+///
+/// `Exists` if something is FILE; `NotAlone` and `Foreign` if another program's file is FILE.new; `Locked` if another process has it; and
+/// those of the system. What was begun is taken away then.
+pub(crate) fn new_events<F: Folder>(folder: &mut F) -> Result<F::File, Cause>
+    ensures named { IsTrue (F.seen folder.old).honest → IfOk result (λ file. IsNamed Main (F.number file) [] (F.seen folder.new).disk) }
+{
+    let file = begin(folder, Name::New, &BegunEvents)?;
+    match finish(folder, &file) {
+        Ok(()) => Ok(file),
+        Err(error) => {
+            abandon(folder, Name::New, &file);
+            Err(error.cause())
+        }
+    }
+}

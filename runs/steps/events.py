@@ -1,0 +1,106 @@
+"""Events and metrics of head ends: what is in their files beside what is told and what the book has, and files that are others'."""
+
+import json
+import re
+import shutil
+import subprocess
+
+from common import wants
+from ends import Fleet, HeadEnd, ended_rows, opening
+
+TIME = re.compile(r"\d{4}-\d\d-\d\dT\d\d:\d\d:\d\d\.\d{6}Z")
+# A line that a power cut tore, and other programs' files.
+TORN = '{"campaign":1,"ended":17'
+OTHERS = ("hello\n", '{"a":1}', "# HELP node_load1 1m load average.\n")
+
+
+def events_of(folder):
+    """The events of a file, each a JSON object on a line of its own, at a time of its own."""
+    text = (folder / "events").read_text()
+    wants(text.endswith("\n"), f"the file ends with {text[-40:]!r}")
+    events = [json.loads(line) for line in text.splitlines()]
+    for event in events:
+        wants(TIME.fullmatch(event.pop("time")) and event.pop("head") == 7, f"{event} has no time, or no head end")
+    return events
+
+
+def told_in(events):
+    """The lines that head ends print of these events."""
+    lines = {
+        "opened": "opened 7 {campaign} {release} {digest}",
+        "cancelled": "cancelled 7 {campaign}",
+        "row": "row 7 {campaign} {meter} {state}",
+        "over": "over done {done} failed {failed}",
+    }
+    for event in events:
+        if event["event"] in lines:
+            why = f": {event['reason']}" if event.get("reason") else ""
+            yield lines[event["event"]].format(**event) + why
+
+
+def led(folder, words):
+    """Leads a campaign to its end, with events and metrics, and returns its lines but the first."""
+    return HeadEnd(folder, *words, "--events", folder / "events", "--metrics", folder / "metrics").over()[1:]
+
+
+# To be seen: an event before its commit, in another order than the lines, without its reason, or at a start that another run told; a file
+# that is gone on with in a torn line; a row that another command ended and of which no event tells.
+def events_are_told_with_the_lines(place):
+    """Each line but the first has its event, in the same order. A torn line is cut off, and what the book has without one comes at the start,
+    once."""
+    with Fleet(place.folder / "fleet", 2).killed() as fleet:
+        folder = fleet.folder
+        lines = led(folder, ["--new", *opening(folder, b"newer")])
+        events = events_of(folder)
+        wants(events[0] == {"event": "started"} and [*told_in(events)] == lines, f"after {lines} the events are {events}")
+        older = opening(folder, b"older", 2)
+        older[older.index("--release") + 1] = "1"
+        with (folder / "events").open("a") as file:
+            file.write(TORN)
+        lines += led(folder, older)
+        wants([*told_in(events_of(folder))] == lines, f"after {lines} the events are {events_of(folder)}")
+        # One that ended without events has them in the next run.
+        kept = (folder / "events").read_text().splitlines(keepends=True)
+        (folder / "events").write_text("".join(line for line in kept if '"event":"row"' not in line))
+        led(folder, [])
+        again = [*told_in(events_of(folder))]
+        wants(sorted(line for line in again if line.startswith("row ")) == sorted(ended_rows(folder)), f"at the next start {again} is told")
+        led(folder, [])
+        rows = [line for line in told_in(events_of(folder)) if line.startswith("row ")]
+        wants(len(rows) == len({*rows}), f"{rows} are told twice")
+
+
+# To be seen: a page that lacks a state or a campaign, has a count of another, or that promtool refuses.
+def metrics_have_the_rows(place):
+    """The page has the rows of each campaign by state, as the book has them at the end, and Prometheus reads it."""
+    with Fleet(place.folder / "fleet", 2).killed() as fleet:
+        led(fleet.folder, ["--new", *opening(fleet.folder, b"newer")])
+        page = (fleet.folder / "metrics").read_text()
+        rows = re.findall(r'^dlmsfw_rows\{head="7",campaign="1",state="(\w+)"\} (\d+)$', page, re.M)
+        wants(rows == [("live", "0"), ("done", "2"), ("failed", "0"), ("cancelled", "0")], f"the rows are {rows}")
+        wants(not (fleet.folder / "metrics.new").exists(), "metrics.new is left")
+        promtool = shutil.which("promtool")
+        if promtool:
+            said = subprocess.run([promtool, "check", "metrics"], input=page, capture_output=True, text=True, check=False)
+            wants(said.returncode == 0 and not said.stdout + said.stderr, f"promtool says {said.stdout}{said.stderr}")
+        else:
+            print("metrics_have_the_rows: promtool isn't here, so no Prometheus reads the page", flush=True)
+
+
+# To be seen: a file of another program that is gone on with or replaced.
+def files_of_others_stay(place):
+    """A file that isn't one of events, or of metrics, is left as it is, and the fault says so."""
+    (place.folder / "meters.csv").write_text("1,127.0.0.1:4059\n")
+    words = ["head", "--head", "7", "--book", "head.book", "--new", "--meters", "meters.csv", "--listen", "127.0.0.1:0"]
+    for name in "events", "metrics":
+        option, path = f"--{name}", place.folder / name
+        for text in OTHERS:
+            path.write_text(text)
+            status, out, said = place.run(*words, option, name)
+            want = ["dlmsfw: Output", f"{option} {name}: it is another program's file"]
+            wants((status, out, said) == (1, "", want), f"over {text!r} it ends with {status} and {said}, and prints {out}")
+            wants(path.read_text() == text and not (place.folder / "head.book").exists(), f"{name} is {path.read_text()!r}, or a book is made")
+            path.unlink()
+
+
+STEPS = [events_are_told_with_the_lines, metrics_have_the_rows, files_of_others_stay]
