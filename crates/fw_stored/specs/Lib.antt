@@ -1,0 +1,2 @@
+-- Public vocabulary: the words of public clauses, for callers and readers.
+pub mod Stored
