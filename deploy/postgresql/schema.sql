@@ -1,7 +1,7 @@
 -- The fleet of a utility: which meter is where, which shard leads it, what was offered to it, and what became of that.
 --
--- The lists of head ends are made of it, and the rows of their books are put back into it (load.sql). It decides nothing: what a row is, the
--- book says. PostgreSQL 15.
+-- The lists of head ends are made of it, and the rows of their books are put back into it (load.sql), and what they told when
+-- (load_events.sql). It decides nothing: what a row is, the book says. PostgreSQL 15.
 
 -- A head end: its number is in each record of its book, and stands on one book alone.
 create table shards (
@@ -15,6 +15,8 @@ create table meters (
     place text not null,
     address text not null,
     shard bigint not null references shards,
+    -- When it is asked: no meter of a wave is, before all of the earlier waves have ended.
+    wave smallint not null default 0 check (wave between 0 and 255),
     up_since timestamptz not null default now(),
     down_since timestamptz check (down_since >= up_since)
 );
@@ -55,9 +57,19 @@ create table results (
 );
 create index results_of_a_meter on results (meter);
 
--- What `dlmsfw head --meters` reads: the number and the address of each meter that is up.
+-- What head ends told, each line as it is: the object of an event, which has its head end and its time.
+create table events (
+    shard bigint not null references shards,
+    told_at timestamptz not null,
+    event text not null,
+    told jsonb not null,
+    primary key (shard, told_at, told)
+);
+create index events_of_rows on events (shard) where event = 'row';
+
+-- What `dlmsfw head --meters` reads: the number, the address and the wave of each meter that is up.
 create view lists as
-    select shard, number, address from meters where down_since is null;
+    select shard, number, address, wave from meters where down_since is null;
 
 -- Each row, with the opening that it is of.
 create view offers as
@@ -104,3 +116,21 @@ create view behind as
     where o.serial = (select max(serial) from openings n where n.shard = o.shard)
     group by o.shard, o.serial
     having count(*) filter (where (r.release, r.digest) is distinct from (o.release, o.digest)) > 0;
+
+-- The events of rows, as rows: how each ended by what its head end told, and how often that was told.
+create view told_rows as
+    select shard, (told ->> 'campaign')::bigint as campaign, (told ->> 'meter')::bigint as meter, told ->> 'state' as state,
+        to_timestamp((told ->> 'ended')::bigint) as ended_at, told ->> 'reason' as reason, count(*) as times
+    from events where event = 'row'
+    group by 1, 2, 3, 4, 5, 6;
+
+-- Each row that ended by its book, and of which no event tells, or another end, or its end twice; and each of which an event tells and which by
+-- its book didn't end so. A shard without events has none of the first. What is told of cancelled rows is that of their campaign, and of each
+-- alone at a later start. A head end tells of a row once its book has it, so reports and events of one that runs may differ for a while.
+create view disagreeing as
+    select shard, campaign, meter, r.state, r.ended_at, r.reason, t.state as told_state, t.ended_at as told_ended_at,
+        t.reason as told_reason, coalesce(t.times, 0) as times
+    from (select * from results where state <> 'live' and shard in (select shard from events)) r
+    full join told_rows t using (shard, campaign, meter)
+    where (r.state, r.ended_at, r.reason, 1) is distinct from (t.state, t.ended_at, t.reason, t.times)
+        and not (r.state is not distinct from 'cancelled' and t.state is null);
