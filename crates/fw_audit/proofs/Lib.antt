@@ -1,0 +1,8 @@
+mod Sizes
+mod Leading
+mod Steps
+mod Items
+mod Lives
+mod Gathering
+mod Audits
+mod Bites
