@@ -6,6 +6,8 @@
 #[cfg(test)]
 mod apdus;
 #[cfg(test)]
+mod audits;
+#[cfg(test)]
 mod captures;
 #[cfg(test)]
 mod commands;

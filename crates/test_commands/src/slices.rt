@@ -3,7 +3,7 @@
 use crate::wire::session;
 use std::test::Fail;
 
-const PARTS: &str = "\
+pub(crate) const PARTS: &str = "\
 // The blocks of 4,096, 4,097 and 8,193 bytes.
 [FOUR_BLOCKS]
 block 00000000 09820400 61*1024 => done

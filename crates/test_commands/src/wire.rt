@@ -39,6 +39,15 @@ pub(crate) fn asking(alloc: Global, sections: &str, parts: &str) -> Result<(), F
     Ok(())
 }
 
+/// A meter after a session.
+pub(crate) fn meter_after(
+    alloc: Global,
+    sections: &str,
+    script: &str,
+) -> Result<MeterCore<MemoryStore>, Fail> {
+    Ok(played(alloc, sections, script)?.into_meter())
+}
+
 /// The store of a meter after a session. A restart returns it where a call of it fails.
 pub(crate) fn store_after(alloc: Global, script: &str) -> Result<MemoryStore, Fail> {
     let mut meter = played(alloc, "", script)?.into_meter();
@@ -287,7 +296,7 @@ fn goal_text(alloc: Global, goal: Option<Goal>) -> Result<String, AllocError> {
 }
 
 /// The numbers of the head end and the campaign, the release, if there is one, and the first four bytes of the digest.
-fn name_text(alloc: Global, name: ImageName) -> Result<String, AllocError> {
+pub(crate) fn name_text(alloc: Global, name: ImageName) -> Result<String, AllocError> {
     let head = match name.campaign.head() {
         Some(head) => head.number(),
         None => 0,
