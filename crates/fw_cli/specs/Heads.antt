@@ -10,7 +10,7 @@ use Rattle.fw_book.specs.Notes.{Known}
 use Rattle.fw_kept.specs.Kept.{HasBook, HasNotes}
 use Rattle.fw_faults.specs.declared.fault.Fault.{Fault}
 use Rattle.fw_faults.specs.declared.fault.Fault.TheVariants.{BadList, BadSetup, BookExists, BookFault, BadBook, BadRecord, CancelRefused, CaptureFault, CounterFault, CounterSpent, ForeignCapture, ForeignHead, Full, ImageFault, ListFault, NoBook, OpenRefused, Output, OutOfMemory, Socket, TooManyFailed}
-use Rattle.fw_report.specs.Noted.{Noted, noted_of_book}
+use Rattle.fw_rows.specs.Noted.{Noted, noted_of_book}
 use Rattle.fw_status.specs.Campaigns.{campaigns_of}
 use Rattle.fw_status.specs.declared.campaign.CampaignStatus.{CampaignStatus}
 use Rattle.fw_cli.specs.declared.head.HeadOptions.{HeadOptions}

@@ -3,7 +3,7 @@
 ghost use Rattle.std.specs.Prelude.{◌≡◌, ◌≢◌, ℕ, List, IfErr, IfOk, OnOk};
 ghost use Rattle.std.specs.Io.KnownBytes.{Appends, Keeps};
 ghost use Rattle.fw_journal.specs.Book.{Drops};
-ghost use Rattle.fw_report.specs.Noted.{Noted};
+ghost use Rattle.fw_rows.specs.Noted.{Noted};
 ghost use Rattle.fw_status.specs.Forms.{Tells};
 ghost use Rattle.fw_status.specs.declared.campaign.CampaignStatus.{CampaignStatus};
 ghost use Rattle.fw_cli.specs.Heads.{HasStatus, IsOfReport, IsOfStatus, SaysWhy};
@@ -12,7 +12,7 @@ use fw_disk::{Because, Cause, Name};
 use fw_faults::{Fault, write_text};
 use fw_host::untaken_line;
 use fw_kept::read_kept;
-use fw_report::{NotedRow, push_noted};
+use fw_rows::{NotedRow, push_noted};
 use fw_status::{CampaignStatus, Listing, StatusForm, append_status, push_campaigns};
 use std::alloc::Global;
 use std::fs::File;

@@ -5,7 +5,7 @@ use Rattle.serde_json.specs.Read.{max_depth}
 use Rattle.fw_book.specs.declared.notes.End.{End}
 use Rattle.fw_book.specs.declared.notes.Reason.{Reason}
 use Rattle.fw_book.specs.declared.row.RowState.{RowState}
-use Rattle.fw_report.specs.Noted.{end_time, reason_data, reason_of_end, time_data}
+use Rattle.fw_rows.specs.Noted.{end_time, reason_data, reason_of_end, time_data}
 use Rattle.fw_events.specs.declared.event.Event.{Event}
 use Rattle.fw_events.specs.declared.event.Event.TheVariants.{Started, GoingOn, Opened, Cancelled, Row, Stuck, Progress, Over}
 use Rattle.fw_events.specs.Events.{event_data, fault_data, row_data}

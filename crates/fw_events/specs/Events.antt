@@ -13,9 +13,9 @@ use Rattle.fw_book.specs.declared.phase.Phase.{Phase}
 use Rattle.fw_book.specs.declared.phase.Phase.TheVariants as phase
 use Rattle.fw_book.specs.declared.row.RowState.{RowState}
 use Rattle.fw_calendar.specs.Times.{IsTime}
-use Rattle.fw_report.specs.Json.{number_data}
-use Rattle.fw_report.specs.Noted.{end_time, reason_data, reason_of_end, time_data}
-use Rattle.fw_report.specs.Report.{state_word}
+use Rattle.fw_rows.specs.Json.{number_data}
+use Rattle.fw_rows.specs.Noted.{end_time, reason_data, reason_of_end, time_data}
+use Rattle.fw_rows.specs.States.{state_word}
 use Rattle.fw_events.specs.declared.event.Event.{Event}
 use Rattle.fw_events.specs.declared.event.Event.TheVariants.{Started, GoingOn, Opened, Cancelled, Row, Stuck, Progress, Over}
 use Rattle.fw_events.specs.declared.figures.Figures.{Figures}

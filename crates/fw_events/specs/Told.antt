@@ -6,7 +6,7 @@ use Rattle.serde_json.specs.Find.{as_number, as_str, as_u64, get}
 use Rattle.serde_json.specs.Read.{read}
 use Rattle.fw_book.specs.Notes.{place}
 use Rattle.fw_book.specs.Rows.{is_live}
-use Rattle.fw_report.specs.Noted.{Noted}
+use Rattle.fw_rows.specs.Noted.{Noted}
 use Rattle.fw_events.specs.declared.event.Event.{Event}
 use Rattle.fw_events.specs.declared.event.Event.TheVariants.{Row}
 use Rattle.fw_events.specs.declared.told.ToldRows.{ToldRows}

@@ -19,7 +19,7 @@ ghost use Rattle.fw_events.specs.Told.{
 
 use crate::event::Event;
 use fw_names::HeadId;
-use fw_report::NotedRow;
+use fw_rows::NotedRow;
 use serde_json::Value;
 use std::alloc::{AllocError, Global};
 use std::collections::HashSet;

@@ -2,7 +2,7 @@
 
 ghost use Rattle.std.specs.Prelude.{◌≡◌, IfOk};
 ghost use Rattle.serde_json.specs.View.{view};
-ghost use Rattle.fw_report.specs.Noted.{end_time, reason_data, reason_of_end, time_data};
+ghost use Rattle.fw_rows.specs.Noted.{end_time, reason_data, reason_of_end, time_data};
 ghost use Rattle.fw_events.specs.Events.{cancelled_data, event_data, fault_data, going_on_data, opened_data, over_data, progress_data, row_data, started_data, stuck_data};
 
 use crate::event::Event;
@@ -10,7 +10,7 @@ use crate::figures::Figures;
 use crate::met::met_after;
 use fw_book::{End, Phase, Reason, RowState};
 use fw_names::{HeadId, ImageName};
-use fw_report::{append_failure, state_word};
+use fw_rows::{append_failure, state_word};
 use serde_json::{Value, json};
 use std::alloc::{AllocError, Global};
 

@@ -10,8 +10,8 @@ use Rattle.fw_rollout.specs.declared.ended.Ended.{Ended}
 use Rattle.fw_rollout.specs.Leading.{state_after}
 use Rattle.fw_faults.specs.declared.fault.Fault.{Fault}
 use Rattle.fw_faults.specs.declared.fault.Fault.TheVariants.{BadList, BadSetup, BookExists, BookFault, BadBook, BadKeys, BadRecord, CancelRefused, CaptureFault, CounterExists, CounterFault, CounterLocked, CounterSpent, ForeignCapture, ForeignHead, Full, ImageFault, KeysFault, KeysReadable, ListFault, Locked, NoBook, NoCounter, NoKey, OpenRefused, Output, OutOfMemory, Socket, TooManyFailed}
-use Rattle.fw_report.specs.Failure.{why_words}
-use Rattle.fw_report.specs.Report.{state_word}
+use Rattle.fw_rows.specs.Failure.{why_words}
+use Rattle.fw_rows.specs.States.{state_word}
 
 -- ---- the lines of `head`
 

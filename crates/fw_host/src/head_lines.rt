@@ -7,8 +7,8 @@ ghost use Rattle.fw_host.specs.Heads.{cancelled_line, ended_line, kept_line, ope
 use fw_book::RowState;
 use fw_ledger::Ending;
 use fw_names::{CampaignId, ImageName};
-use fw_report::{append_why, head_number, state_word};
 use fw_rollout::{Counts, Ended};
+use fw_rows::{append_why, head_number, state_word};
 use std::alloc::{AllocError, Global};
 
 /// The line of a campaign that was opened.

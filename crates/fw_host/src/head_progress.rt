@@ -5,8 +5,8 @@ ghost use Rattle.std.specs.Prelude.{◌≡◌, None};
 use crate::head_reach::{Lasting, Short, Since, known_among, needed_among, scaled};
 use fw_events::met_after;
 use fw_head::HeadCore;
-use fw_report::head_number;
 use fw_rollout::{Counts, HeadWatch, Stuck};
+use fw_rows::head_number;
 use std::fmt;
 
 /// What clears the line of a terminal from its first column on (ECMA-48, CR and EL).

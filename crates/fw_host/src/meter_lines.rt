@@ -17,7 +17,7 @@ ghost use Rattle.fw_host.specs.Meters.{
 
 use fw_daemon::{Cause, Dropped, MeterEvent, Work};
 use fw_names::ImageName;
-use fw_report::head_number;
+use fw_rows::head_number;
 use std::alloc::{AllocError, Global};
 use std::net::SocketAddr;
 

@@ -3,7 +3,7 @@ use Rattle.std.proofs.Common.{◌≡◌, ℕ, List, [], ◌∷◌, map, false, O
 use Rattle.serde_json.specs.View.{items_of}
 use Rattle.serde_json.specs.Written.{has_float, items_have_float}
 use Rattle.fw_report.specs.declared.refusal.Refusal.{Refusal}
-use Rattle.fw_report.specs.declared.summary.RowEntry.{RowEntry}
+use Rattle.fw_rows.specs.declared.row.RowEntry.{RowEntry}
 use Rattle.fw_report.specs.declared.summary.MeterEntry.{MeterEntry}
 use Rattle.fw_report.specs.Json.{row_data, meter_data, refusal_data, report_data}
 

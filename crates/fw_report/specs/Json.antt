@@ -1,17 +1,15 @@
 -- Public vocabulary: the report of a world as JSON (RFC 8259), on one line without spaces. The members of an object stand by their keys.
 use Rattle.std.specs.Prelude.{ℕ, List, ◌++◌, map, Option, None, Some, codes}
-use Rattle.serde_json.specs.Data.{Data, number, unsigned, string, null, array, object, member, no_members}
+use Rattle.serde_json.specs.Data.{Data, string, null, array, object, member, no_members}
 use Rattle.serde_json.specs.View.{items_of}
 use Rattle.serde_json.specs.Written.{compact_text}
 use Rattle.fw_image.specs.Status.{status_number}
 use Rattle.fw_report.specs.declared.refusal.Refusal.{Refusal}
-use Rattle.fw_report.specs.declared.summary.RowEntry.{RowEntry}
 use Rattle.fw_report.specs.declared.summary.MeterEntry.{MeterEntry}
 use Rattle.fw_report.specs.Refusal.{cause_name}
-use Rattle.fw_report.specs.Report.{state_word}
-
-abbrev pub number_data : ℕ → Data
-number_data n = number (unsigned n)
+use Rattle.fw_rows.specs.declared.row.RowEntry.{RowEntry}
+use Rattle.fw_rows.specs.Json.{number_data}
+use Rattle.fw_rows.specs.States.{state_word}
 
 abbrev pub row_data : RowEntry → Data
 row_data row = object (member (codes "campaign") (number_data row.serial) (member (codes "head") (number_data row.head)

@@ -4,8 +4,6 @@ pub mod Refusal
 pub mod Summary
 pub mod Table
 pub mod Json
-pub mod Failure
-pub mod Noted
 pub mod Forms
 pub mod Message
 pub mod Reason

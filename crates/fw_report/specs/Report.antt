@@ -5,20 +5,13 @@ use Rattle.std.specs.Option.{option_map}
 use Rattle.fw_image.specs.Meter.{Meter, status_of}
 use Rattle.fw_image.specs.Status.{status_number}
 use Rattle.fw_book.specs.declared.row.Row.{Row}
-use Rattle.fw_book.specs.declared.row.RowState.{RowState}
-use Rattle.fw_book.specs.declared.row.RowState.TheVariants.{Live, Done, Failed, Cancelled}
 use Rattle.fw_book.specs.Contents.{Contents, Offered}
 use Rattle.fw_head.specs.Head.{Head}
 use Rattle.fw_world.specs.declared.setup.HeadSetup.{HeadSetup}
 use Rattle.fw_world.specs.declared.setup.MeterSetup.{MeterSetup}
 use Rattle.fw_world.specs.declared.setup.Setup.{Setup}
 use Rattle.fw_world.specs.State.{State, head_at, meter_at}
-
-abbrev pub state_word : RowState → List ℕ
-state_word Live = codes "live"
-state_word Done = codes "done"
-state_word Failed = codes "failed"
-state_word Cancelled = codes "cancelled"
+use Rattle.fw_rows.specs.States.{state_word}
 
 -- the head end, the campaign's serial number, the meter, and how far it is
 abbrev pub row_line : ℕ → ℕ → Row → List ℕ

@@ -9,7 +9,7 @@ use Rattle.fw_world.specs.declared.setup.HeadSetup.{HeadSetup}
 use Rattle.fw_world.specs.declared.setup.MeterSetup.{MeterSetup}
 use Rattle.fw_world.specs.declared.setup.Setup.{Setup}
 use Rattle.fw_world.specs.State.{State, head_at, meter_at}
-use Rattle.fw_report.specs.declared.summary.RowEntry.{RowEntry}
+use Rattle.fw_rows.specs.declared.row.RowEntry.{RowEntry}
 use Rattle.fw_report.specs.declared.summary.MeterEntry.{MeterEntry}
 
 abbrev pub row_entry : ℕ → ℕ → Row → List RowEntry

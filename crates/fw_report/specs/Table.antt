@@ -1,21 +1,14 @@
 -- Public vocabulary: the report of a world as tables, a whole text: one of the rows of its campaigns, and one of its meters. A number fills a
 -- column of 12 letters, so that the columns stand below their headings.
-use Rattle.std.specs.Prelude.{ℕ, ◌-◌, List, [], ◌++◌, length, flat_map, replicate, Option, None, Some, codes, decimal}
+use Rattle.std.specs.Prelude.{ℕ, List, [], ◌++◌, flat_map, Option, None, Some, codes, decimal}
 use Rattle.fw_image.specs.declared.status.TransferStatus.{TransferStatus}
 use Rattle.fw_image.specs.declared.status.TransferStatus.TheVariants.{NotInitiated, Initiated, VerificationInitiated, VerificationSuccessful, VerificationFailed, ActivationSuccessful}
 use Rattle.fw_report.specs.declared.refusal.Refusal.{Refusal}
-use Rattle.fw_report.specs.declared.summary.RowEntry.{RowEntry}
 use Rattle.fw_report.specs.declared.summary.MeterEntry.{MeterEntry}
 use Rattle.fw_report.specs.Refusal.{cause_name}
-use Rattle.fw_report.specs.Report.{state_word}
-
--- how wide a column of numbers is
-abbrev pub column : ℕ
-column = 12
-
--- a number, and spaces to the end of its column
-abbrev pub number_cell : ℕ → List ℕ
-number_cell n = decimal n ++ replicate (column - length (decimal n)) 32
+use Rattle.fw_rows.specs.declared.row.RowEntry.{RowEntry}
+use Rattle.fw_rows.specs.States.{state_word}
+use Rattle.fw_rows.specs.Table.{number_cell, row_headings}
 
 -- the standard's words for image_transfer_status, in a column of their own
 abbrev pub status_cell : TransferStatus → List ℕ
@@ -25,9 +18,6 @@ status_cell VerificationInitiated = codes "verification initiated   "
 status_cell VerificationSuccessful = codes "verification successful  "
 status_cell VerificationFailed = codes "verification failed      "
 status_cell ActivationSuccessful = codes "activation successful    "
-
-abbrev pub row_headings : List ℕ
-row_headings = codes "head end    campaign    meter       state\n"
 
 abbrev pub row_cells : RowEntry → List ℕ
 row_cells row = number_cell row.head ++ (number_cell row.serial ++ (number_cell row.meter ++ (state_word row.state ++ codes "\n")))

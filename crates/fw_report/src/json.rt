@@ -7,8 +7,8 @@ ghost use Rattle.serde_json.specs.Written.{compact_text};
 ghost use Rattle.fw_report.specs.Json.{json_of, report_data, row_data, meter_data, active_data, refusal_data};
 
 use crate::refusal::{Refusal, cause_name};
-use crate::report::state_word;
-use crate::summary::{MeterEntry, RowEntry, Summary};
+use crate::summary::{MeterEntry, Summary};
+use fw_rows::{RowEntry, state_word};
 use serde_json::{Value, json};
 use std::alloc::{AllocError, Global};
 

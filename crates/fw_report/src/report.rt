@@ -13,11 +13,11 @@ ghost use Rattle.fw_report.specs.Report.{
   meter_line,
   activations_line,
   board_line,
-  state_word,
 };
 
-use fw_book::{Book, Offer, Row, RowState};
-use fw_names::{CampaignId, HeadId, MeterId};
+use fw_book::{Book, Offer, Row};
+use fw_names::{HeadId, MeterId};
+use fw_rows::{head_number, state_word};
 use fw_world::{HeadSetup, MeterSetup, Setup, World};
 use std::alloc::AllocError;
 
@@ -83,18 +83,6 @@ fn append_row(text: &mut String, head: u32, serial: u32, row: &Row) -> Result<()
     write!(text, "row {head} {serial} {meter} {state}\n")
 }
 
-/// The word for the state of a row.
-pub fn state_word(state: RowState) -> &'static str
-    ensures { result.now ≡ state_word state }
-{
-    match state {
-        RowState::Live => "live",
-        RowState::Done => "done",
-        RowState::Failed => "failed",
-        RowState::Cancelled => "cancelled",
-    }
-}
-
 /// Appends the lines of meters.
 fn append_meters(text: &mut String, meters: &[MeterSetup], world: &World) -> Result<(), AllocError>
     ensures { OnOk result (string_bytes text.new ≡ string_bytes text.old ++ flat_map (λ meter. meter_lines world.now meter) meters.now) }
@@ -120,16 +108,6 @@ fn append_meter(text: &mut String, meter: MeterId, world: &World) -> Result<(), 
         text,
         "meter {number} status {status} active {head} {serial} size {size}\n"
     )
-}
-
-/// The number of the head end whose campaign this is, and 0 for the factory's.
-pub fn head_number(campaign: CampaignId) -> u32
-    ensures { result ≡ campaign.head }
-{
-    match campaign.head() {
-        Some(head) => head.number(),
-        None => 0,
-    }
 }
 
 /// Appends the line that counts the images that were switched to.

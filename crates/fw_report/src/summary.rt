@@ -14,25 +14,12 @@ ghost use Rattle.fw_report.specs.Summary.{
   meter_entries,
 };
 
-use crate::report::head_number;
-use fw_book::{Book, Row, RowState};
+use fw_book::{Book, Row};
 use fw_image::{MeterView, TransferStatus};
 use fw_names::{HeadId, MeterId};
+use fw_rows::{RowEntry, head_number};
 use fw_world::{HeadSetup, MeterSetup, Setup, World};
 use std::alloc::{AllocError, Global};
-
-/// A row of a campaign.
-#[derive(Clone, Copy)]
-pub struct RowEntry {
-    /// The head end.
-    pub head: u32,
-    /// The serial number of the campaign.
-    pub serial: u32,
-    /// The meter.
-    pub meter: u32,
-    /// How far it is.
-    pub state: RowState,
-}
 
 /// A meter, and the image that it runs.
 #[derive(Clone, Copy)]

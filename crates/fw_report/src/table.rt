@@ -1,32 +1,25 @@
 //! A report as tables, with columns of equal width.
 
-ghost use Rattle.std.specs.Prelude.{◌≡◌, ◌++◌, flat_map, replicate, OnOk, string_bytes};
+ghost use Rattle.std.specs.Prelude.{◌≡◌, ◌++◌, flat_map, OnOk, string_bytes};
 ghost use Rattle.fw_report.specs.Table.{
   table_of,
   table_lines,
   table_ending,
   activated_words,
-  row_headings,
   meter_headings,
   row_cells,
   meter_cells,
-  number_cell,
   status_cell,
   refusal_words,
   refusal_words_if,
 };
 
 use crate::refusal::{Refusal, cause_name};
-use crate::report::state_word;
-use crate::summary::{MeterEntry, RowEntry, Summary};
+use crate::summary::{MeterEntry, Summary};
 use fw_image::TransferStatus;
+use fw_rows::table::ROW_HEADINGS;
+use fw_rows::{RowEntry, append_number, state_word};
 use std::alloc::AllocError;
-
-/// The width of a column of numbers, which have 10 digits at most.
-const COLUMN: usize = 12;
-
-/// The headings of the rows.
-pub const ROW_HEADINGS: &str = "head end    campaign    meter       state\n";
 
 /// The headings of the meters.
 const METER_HEADINGS: &str =
@@ -131,26 +124,6 @@ fn append_meter(text: &mut String, meter: &MeterEntry) -> Result<(), AllocError>
     append_number(text, meter.release)?;
     let size = meter.size;
     write!(text, "{size}\n")
-}
-
-/// Appends a number, and spaces to the end of its column.
-pub(crate) fn append_number(text: &mut String, number: u32) -> Result<(), AllocError>
-    ensures { OnOk result (string_bytes text.new ≡ string_bytes text.old ++ number_cell number) }
-{
-    let start = text.len();
-    write!(text, "{number}")?;
-    let filled = text.len() - start;
-    append_spaces(text, COLUMN.saturating_sub(filled))
-}
-
-/// Appends this number of spaces.
-fn append_spaces(text: &mut String, count: usize) -> Result<(), AllocError>
-    ensures { OnOk result (string_bytes text.new ≡ string_bytes text.old ++ replicate count 32) }
-{
-    for _ in 0..count {
-        text.push_str(" ")?;
-    }
-    Ok(())
 }
 
 /// The status of a meter in words, and spaces to the end of their column.

@@ -5,9 +5,9 @@ ghost use Rattle.fw_report.specs.Trace.{addressed_words, apdu_words, attribute_n
 ghost use Rattle.fw_report.specs.declared.message.Message.{Message};
 
 use crate::message::{Addressed, Message, Service, ShownValue, Title, Unread};
-use crate::report::head_number;
 use fw_apdu::ApduError;
 use fw_axdr::AxdrError;
+use fw_rows::head_number;
 use fw_server::Reading;
 use fw_wrapper::WrapError;
 use std::alloc::AllocError;

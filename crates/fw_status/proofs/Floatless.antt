@@ -3,7 +3,7 @@ use Rattle.std.proofs.Common.{◌≡◌, ℕ, List, [], ◌∷◌, map, false, O
 use Rattle.serde_json.specs.View.{items_of}
 use Rattle.serde_json.specs.Written.{has_float, items_have_float}
 use Rattle.fw_book.specs.declared.notes.Reason.{Reason}
-use Rattle.fw_report.specs.Noted.{Noted, end_time, noted_data, reason_data, reason_of_end, time_data}
+use Rattle.fw_rows.specs.Noted.{Noted, end_time, noted_data, reason_data, reason_of_end, time_data}
 use Rattle.fw_status.specs.Campaigns.{campaign_data, campaigns_data}
 use Rattle.fw_status.specs.Rows.{rows_data}
 use Rattle.fw_status.specs.declared.campaign.CampaignStatus.{CampaignStatus}

@@ -12,8 +12,8 @@ use Rattle.fw_book.specs.declared.row.RowState.TheVariants as state
 use Rattle.fw_book.specs.Contents.{Contents, Offered}
 use Rattle.fw_book.specs.Notes.{Known, opened_at}
 use Rattle.fw_calendar.specs.Times.{IsSecond}
-use Rattle.fw_report.specs.Json.{number_data}
-use Rattle.fw_report.specs.Noted.{time_data, time_field}
+use Rattle.fw_rows.specs.Json.{number_data}
+use Rattle.fw_rows.specs.Noted.{time_data, time_field}
 use Rattle.fw_status.specs.declared.campaign.CampaignStatus.{CampaignStatus}
 
 -- ---- how many rows are in which state

@@ -1,6 +1,6 @@
 -- Public vocabulary: what a book tells, in each form.
 use Rattle.std.specs.Prelude.{◌≡◌, ℕ, List}
-use Rattle.fw_report.specs.Noted.{Noted}
+use Rattle.fw_rows.specs.Noted.{Noted}
 use Rattle.fw_status.specs.Campaigns.{AreLines, AreTold, campaigns_csv, campaigns_json}
 use Rattle.fw_status.specs.Page.{IsCampaignsPage, IsPage}
 use Rattle.fw_status.specs.Rows.{rows_csv, rows_json, rows_table}

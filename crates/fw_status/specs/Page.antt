@@ -5,9 +5,9 @@ use Rattle.hex.specs.Hex.{encode_lower}
 use Rattle.fw_book.specs.declared.notes.Reason.{Reason}
 use Rattle.fw_book.specs.declared.row.RowState.{RowState}
 use Rattle.fw_book.specs.declared.row.RowState.TheVariants as state
-use Rattle.fw_report.specs.Failure.{failure_words}
-use Rattle.fw_report.specs.Noted.{Noted, end_time, reason_of_end}
-use Rattle.fw_report.specs.Report.{state_word}
+use Rattle.fw_rows.specs.Failure.{failure_words}
+use Rattle.fw_rows.specs.Noted.{Noted, end_time, reason_of_end}
+use Rattle.fw_rows.specs.States.{state_word}
 use Rattle.fw_status.specs.Campaigns.{AreTold, IsTimeIf, is_in}
 use Rattle.fw_status.specs.Rows.{count_of}
 use Rattle.fw_status.specs.declared.campaign.CampaignStatus.{CampaignStatus}

@@ -5,9 +5,9 @@ use Rattle.serde_json.specs.View.{items_of}
 use Rattle.serde_json.specs.Written.{compact_text}
 use Rattle.fw_book.specs.declared.row.RowState.{RowState}
 use Rattle.fw_book.specs.declared.row.RowState.TheVariants as state
-use Rattle.fw_report.specs.Json.{number_data}
-use Rattle.fw_report.specs.Noted.{Noted, csv_headings, csv_row, noted_data, row_cells}
-use Rattle.fw_report.specs.Table.{row_headings}
+use Rattle.fw_rows.specs.Json.{number_data}
+use Rattle.fw_rows.specs.Noted.{Noted, csv_headings, csv_row, noted_data, row_cells}
+use Rattle.fw_rows.specs.Table.{row_headings}
 use Rattle.fw_status.specs.Campaigns.{is_in}
 
 -- how many rows are in this state

@@ -3,7 +3,7 @@
 ghost use Rattle.std.specs.Prelude.{◌≡◌, ◌++◌, ℕ, List, codes, flat_map, map, IfOk, OnOk, string_bytes};
 ghost use Rattle.serde_json.specs.View.{view};
 ghost use Rattle.serde_json.specs.Written.{compact_text};
-ghost use Rattle.fw_report.specs.Noted.{time_data, time_field};
+ghost use Rattle.fw_rows.specs.Noted.{time_data, time_field};
 ghost use Rattle.fw_status.specs.Campaigns.{
   AreLines,
   AreTold,
@@ -23,7 +23,7 @@ ghost use Rattle.fw_status.specs.Campaigns.{
 
 use crate::campaign::CampaignStatus;
 use fw_calendar::append_second;
-use fw_report::head_number;
+use fw_rows::head_number;
 use serde_json::{Value, json};
 use std::alloc::{AllocError, Global};
 

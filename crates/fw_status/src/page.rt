@@ -2,7 +2,7 @@
 
 ghost use Rattle.std.specs.Prelude.{◌≡◌, ◌++◌, ℕ, List, codes, OnOk, string_bytes};
 ghost use Rattle.hex.specs.Hex.{encode_lower};
-ghost use Rattle.fw_report.specs.Noted.{end_time, reason_of_end};
+ghost use Rattle.fw_rows.specs.Noted.{end_time, reason_of_end};
 ghost use Rattle.fw_status.specs.Campaigns.{AreTold};
 ghost use Rattle.fw_status.specs.Page.{
   IsCampaignHtml,
@@ -34,7 +34,7 @@ use crate::campaign::{CampaignStatus, is_in};
 use crate::campaigns::append_time_if;
 use crate::rows::count_of;
 use fw_book::{End, Reason, RowState};
-use fw_report::{NotedRow, append_failure, head_number, state_word};
+use fw_rows::{NotedRow, append_failure, head_number, state_word};
 use std::alloc::{AllocError, Global};
 
 /// What each page begins with, and how its text looks.

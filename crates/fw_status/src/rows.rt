@@ -7,8 +7,8 @@ ghost use Rattle.fw_status.specs.Rows.{count_of, counts_line, rows_csv, rows_dat
 
 use crate::campaign::is_in;
 use fw_book::RowState;
-use fw_report::table::ROW_HEADINGS;
-use fw_report::{NotedRow, append_noted, append_noted_csv, push_noted_values};
+use fw_rows::table::ROW_HEADINGS;
+use fw_rows::{NotedRow, append_noted, append_noted_csv, push_noted_values};
 use serde_json::{Value, json};
 use std::alloc::{AllocError, Global};
 

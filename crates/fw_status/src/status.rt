@@ -5,7 +5,7 @@ ghost use Rattle.fw_status.specs.Forms.{Tells, TellsCampaigns, TellsRows};
 
 use crate::campaign::CampaignStatus;
 use crate::{campaigns, page, rows};
-use fw_report::NotedRow;
+use fw_rows::NotedRow;
 use std::alloc::{AllocError, Global};
 
 /// The form of what is told.

@@ -3,7 +3,7 @@
 use fw_book::{Answer, End, Phase, Reason, RowState};
 use fw_events::{Event, Figures, ToldRows, event_line, fault_line, metrics_page, untold_events};
 use fw_names::{CampaignId, HeadId, ImageName, name_of};
-use fw_report::{NotedRow, RowEntry};
+use fw_rows::{NotedRow, RowEntry};
 use fw_status::CampaignStatus;
 use std::alloc::Global;
 use std::test::Fail;

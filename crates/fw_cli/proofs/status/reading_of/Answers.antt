@@ -2,7 +2,7 @@ use Rattle.std.proofs.Common.{◌≡◌, ◌++◌, ◌∙◌, ℕ, List, [], Opt
 use Rattle.fw_book.specs.Contents.{Contents}
 use Rattle.fw_book.specs.Notes.{Known}
 use Rattle.fw_kept.specs.Kept.{HasNotes, IsReadAs}
-use Rattle.fw_report.specs.Noted.{Noted, noted_of_book}
+use Rattle.fw_rows.specs.Noted.{Noted, noted_of_book}
 use Rattle.fw_status.specs.Campaigns.{campaigns_of}
 use Rattle.fw_status.specs.declared.campaign.CampaignStatus.{CampaignStatus}
 use Rattle.fw_cli.specs.Heads.{HasStatus}

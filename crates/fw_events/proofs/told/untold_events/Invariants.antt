@@ -1,5 +1,5 @@
 use Rattle.std.proofs.Common.{◌≡◌, flat_map, take}
-use Rattle.fw_report.specs.Noted.{Noted}
+use Rattle.fw_rows.specs.Noted.{Noted}
 use Rattle.fw_events.specs.Told.{untold_event}
 use Rattle.fw_events.proofs.told.untold_events.Given as goal
 

@@ -1,6 +1,6 @@
 use Rattle.std.proofs.Common.{◌≡◌, ◌++◌, map, take}
 use Rattle.serde_json.specs.View.{view}
-use Rattle.fw_report.specs.declared.summary.RowEntry.{RowEntry}
+use Rattle.fw_rows.specs.declared.row.RowEntry.{RowEntry}
 use Rattle.fw_report.specs.Json.{row_data}
 use Rattle.fw_report.proofs.json.push_rows.Given as goal
 

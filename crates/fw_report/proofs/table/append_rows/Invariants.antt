@@ -1,6 +1,6 @@
 use Rattle.std.proofs.Common.{◌≡◌, ◌++◌, take, flat_map}
 use Rattle.std.specs.Prelude.{string_bytes}
-use Rattle.fw_report.specs.declared.summary.RowEntry.{RowEntry}
+use Rattle.fw_rows.specs.declared.row.RowEntry.{RowEntry}
 use Rattle.fw_report.specs.Table.{row_cells}
 use Rattle.fw_report.proofs.table.append_rows.Given as goal
 

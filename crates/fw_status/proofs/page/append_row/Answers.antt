@@ -2,7 +2,7 @@ use Rattle.std.proofs.Common.{◌≡◌, ◌∙◌, ◌++◌, ℕ, List, [], Opt
 use Rattle.std.proofs.lemmas.Result.{on_ok_weaker}
 use Rattle.std.specs.Prelude.{codes, string_bytes}
 use Rattle.fw_book.specs.declared.notes.End.{End}
-use Rattle.fw_report.specs.Noted.{Noted, end_time}
+use Rattle.fw_rows.specs.Noted.{Noted, end_time}
 use Rattle.fw_status.specs.Campaigns.{IsTimeIf}
 use Rattle.fw_status.specs.Page.{reason_html, row_html}
 use Rattle.fw_status.proofs.Told.{three_parts}

@@ -1,7 +1,7 @@
 use Rattle.std.proofs.Common.{◌++◌, ◌∙◌, ap, List, ℕ}
 use Rattle.std.proofs.lemmas.Result.{on_ok_weaker}
 use Rattle.std.specs.Prelude.{codes, string_bytes}
-use Rattle.fw_report.specs.Report.{state_word}
+use Rattle.fw_rows.specs.States.{state_word}
 use Rattle.fw_status.specs.Page.{count_html, details_tag}
 use Rattle.fw_status.proofs.Told.{onto}
 use Rattle.fw_status.proofs.page.append_table_head.Goals as goal

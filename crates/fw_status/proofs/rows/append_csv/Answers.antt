@@ -1,6 +1,6 @@
 use Rattle.std.proofs.Common.{◌∙◌, ◌++◌, ap, append_assoc, flat_map}
 use Rattle.std.specs.Prelude.{string_bytes}
-use Rattle.fw_report.specs.Noted.{Noted, csv_headings, csv_row}
+use Rattle.fw_rows.specs.Noted.{Noted, csv_headings, csv_row}
 use Rattle.fw_status.proofs.rows.append_csv.Goals as goal
 
 pub returns : goal.returns

@@ -3,8 +3,8 @@ use Rattle.std.specs.List.{AllByRecursion}
 use Rattle.fw_names.specs.Name.{Campaign}
 use Rattle.fw_book.specs.declared.row.Row.{Row}
 use Rattle.fw_book.specs.Contents.{Offered, IsEntry}
-use Rattle.fw_report.specs.Noted.{Noted, noted_entry, noted_of_campaign}
-use Rattle.fw_report.proofs.noted.push_noted.Goals as goal
+use Rattle.fw_rows.specs.Noted.{Noted, noted_entry, noted_of_campaign}
+use Rattle.fw_rows.proofs.noted.push_noted.Goals as goal
 
 abbrev Numbered : List (ℕ × Offered) → Type 0
 Numbered entries = AllByRecursion (λ (entry : ℕ × Offered). 1 ≤ entry.0) entries

@@ -2,7 +2,7 @@
 
 ghost use Rattle.std.specs.Prelude.{◌≡◌, ◌≤◌, ◌∷◌, ◌++◌, [], flat_map, map, IfOk, OnOk, string_bytes};
 ghost use Rattle.serde_json.specs.View.{view};
-ghost use Rattle.fw_report.specs.Noted.{
+ghost use Rattle.fw_rows.specs.Noted.{
   csv_row,
   end_time,
   noted_data,
@@ -18,8 +18,7 @@ ghost use Rattle.fw_report.specs.Noted.{
 };
 
 use crate::failure::{append_failure, append_why};
-use crate::report::{head_number, state_word};
-use crate::summary::RowEntry;
+use crate::row::{RowEntry, head_number, state_word};
 use crate::table::append_number;
 use fw_book::{Book, End, Notes, Reason, Row};
 use fw_names::{CampaignId, HeadId};
@@ -39,7 +38,7 @@ pub struct NotedRow {
 }
 
 impl Model for NotedRow {
-    ghost use Rattle.fw_report.specs.Noted.{Noted};
+    ghost use Rattle.fw_rows.specs.Noted.{Noted};
 
     ghost Value = { Noted };
 

@@ -8,11 +8,11 @@ use Rattle.fw_book.specs.declared.notes.End.{End}
 use Rattle.fw_book.specs.declared.notes.Reason.{Reason}
 use Rattle.fw_book.specs.Contents.{Contents, Offered}
 use Rattle.fw_book.specs.Notes.{Known, opened_at, end_of}
-use Rattle.fw_report.specs.declared.summary.RowEntry.{RowEntry}
-use Rattle.fw_report.specs.Failure.{failure_words, why_words}
-use Rattle.fw_report.specs.Json.{number_data}
-use Rattle.fw_report.specs.Report.{state_word}
-use Rattle.fw_report.specs.Table.{number_cell}
+use Rattle.fw_rows.specs.declared.row.RowEntry.{RowEntry}
+use Rattle.fw_rows.specs.Failure.{failure_words, why_words}
+use Rattle.fw_rows.specs.Json.{number_data}
+use Rattle.fw_rows.specs.States.{state_word}
+use Rattle.fw_rows.specs.Table.{number_cell}
 
 -- ---- the rows
 

@@ -1,8 +1,8 @@
 use Rattle.std.proofs.Common.{◌≡◌, ◌≤◌, ◌++◌, ℕ, flat_map}
 use Rattle.std.specs.List.{AllByRecursion}
 use Rattle.fw_book.specs.Contents.{Offered}
-use Rattle.fw_report.specs.Noted.{noted_of_book, noted_of_campaign}
-use Rattle.fw_report.proofs.noted.push_noted.Given as goal
+use Rattle.fw_rows.specs.Noted.{noted_of_book, noted_of_campaign}
+use Rattle.fw_rows.proofs.noted.push_noted.Given as goal
 
 abbrev pub invariant-loop-serial : goal.invariant-loop-serial
 invariant-loop-serial l =

@@ -1,7 +1,7 @@
 use Rattle.std.proofs.Common.{◌≡◌, ◌++◌, take, flat_map}
 use Rattle.std.specs.Prelude.{string_bytes}
-use Rattle.fw_report.specs.Noted.{Noted, csv_row}
-use Rattle.fw_report.proofs.noted.append_noted_csv.Given as goal
+use Rattle.fw_rows.specs.Noted.{Noted, csv_row}
+use Rattle.fw_rows.proofs.noted.append_noted_csv.Given as goal
 
 abbrev pub invariant-loop-row : goal.invariant-loop-row
 invariant-loop-row l = string_bytes l.text ≡ string_bytes l.initial.text ++ flat_map (λ (row : Noted). csv_row row) (take l.row-index l.rows)

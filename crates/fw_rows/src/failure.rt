@@ -1,9 +1,9 @@
 //! The words for why a row failed: the phase that it was in, and what its meter answered, or that no answer ended it.
 
 ghost use Rattle.std.specs.Prelude.{◌≡◌, ◌++◌, OnOk, string_bytes};
-ghost use Rattle.fw_report.specs.Failure.{answer_words, campaign_words, code_word, failure_words, phase_word, status_word, why_words};
+ghost use Rattle.fw_rows.specs.Failure.{answer_words, campaign_words, code_word, failure_words, phase_word, status_word, why_words};
 
-use crate::report::head_number;
+use crate::row::head_number;
 use fw_apdu::cosem;
 use fw_book::{Answer, Phase, Reason};
 use fw_names::CampaignId;
