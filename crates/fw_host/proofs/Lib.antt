@@ -4,3 +4,4 @@ mod Taken
 mod Makings
 pub mod Tellings
 mod Linkings
+mod Causes

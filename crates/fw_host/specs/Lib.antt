@@ -2,9 +2,11 @@
 pub mod Telling
 pub mod Meters
 pub mod Lists
+pub mod ListCauses
 pub mod Waves
 pub mod Heads
 pub mod Openings
+pub mod Busy
 pub mod Clocks
 pub mod Strangers
 pub mod Captures

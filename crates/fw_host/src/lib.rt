@@ -2,6 +2,7 @@
 //! ports, and the terminal of a head end.
 #![tactic(auto)]
 
+mod busy;
 mod capture_file;
 mod capture_making;
 mod capture_port;
@@ -22,6 +23,7 @@ mod head_port_calls;
 mod head_progress;
 mod head_reach;
 mod lines;
+mod list_cause;
 mod meter_lines;
 mod meter_list;
 mod meter_store;
@@ -34,6 +36,7 @@ mod sealing;
 mod strangers;
 mod wave_list;
 
+pub use busy::{BusyMeter, busy_meter};
 pub use capture_file::open_capture;
 pub use capture_port::CapturePort;
 pub use counter_file::{check_no_counter, kept_counters};
@@ -49,6 +52,7 @@ pub use head_opening::{
 pub use head_port::UdpHeadPort;
 pub use head_progress::{HeadProgress, ProgressOutput};
 pub use lines::Lines;
+pub use list_cause::{ListCause, line_cause};
 pub use meter_lines::listening_line;
 pub use meter_list::read_list;
 pub use meter_store::{NewMeter, NewStore, found_meter};

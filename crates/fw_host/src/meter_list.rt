@@ -124,7 +124,7 @@ fn take<N: Net>(
 }
 
 /// The line of this text at which a record begins. The reader says where it stood before: the end of a line, and empty lines, may come first.
-fn line_of(text: &[u8], fields: &ByteRecord) -> u64 {
+pub(crate) fn line_of(text: &[u8], fields: &ByteRecord) -> u64 {
     let Some(position) = fields.position() else {
         return 0;
     };
@@ -140,7 +140,7 @@ fn line_of(text: &[u8], fields: &ByteRecord) -> u64 {
 }
 
 /// The meter of a record with its wave, if it has the fields of one.
-fn planned<N: Net>(net: &N, own: SocketAddr, fields: &ByteRecord) -> Option<Planned>
+pub(crate) fn planned<N: Net>(net: &N, own: SocketAddr, fields: &ByteRecord) -> Option<Planned>
     ensures { MatchOption result (NamesHost (fields_of fields.now)
         ⊎ ((planned : Planned) → ¬ SpellsPlanned own (fields_of fields.now) planned))
         (λ planned. SpellsPlanned own (fields_of fields.now) planned) }
@@ -189,7 +189,7 @@ fn third_wave(fields: &ByteRecord) -> Option<u8>
 }
 
 /// The wave of this number.
-fn wave_named(text: &str) -> Option<u8>
+pub(crate) fn wave_named(text: &str) -> Option<u8>
     ensures { MatchOption result ((wave : ℕ) → ¬ SpellsNumber 8 text.now wave) (λ wave. SpellsNumber 8 text.now wave) }
 {
     match text.parse::<u8>() {
@@ -199,7 +199,7 @@ fn wave_named(text: &str) -> Option<u8>
 }
 
 /// The meter of a number.
-fn meter_of(text: &str) -> Option<MeterId>
+pub(crate) fn meter_of(text: &str) -> Option<MeterId>
     ensures { MatchOption result ((number : ℕ) → ¬ SpellsNumber 32 text.now number) (λ meter. SpellsNumber 32 text.now meter) }
 {
     match text.parse::<u32>() {
@@ -240,7 +240,7 @@ fn can_be_asked(own: SocketAddr, address: SocketAddr) -> bool
 }
 
 /// Whether an address is that of one host.
-fn is_host(ip: IpAddr) -> bool
+pub(crate) fn is_host(ip: IpAddr) -> bool
     ensures { IsTrue result ↔ IsHost ip }
 {
     match ip {
