@@ -126,7 +126,7 @@ def keys_are_refused(place):
     wants(got == (1, "", ["dlmsfw: ListFault", f"--meters missing: {missing}"]), f"without a list it ends with {got}")
     (place.folder / "twice.csv").write_text("1,127.0.0.1:4059\n1,127.0.0.1:4060\n")
     got = place.run(*words, "twice.csv")
-    wants(got == (1, "", ["dlmsfw: BadList 2", "--meters twice.csv"]), f"with a meter twice it ends with {got}")
+    wants(got == (1, "", ["dlmsfw: BadList 2", "--meters twice.csv: line 1 has the same meter"]), f"with a meter twice it ends with {got}")
     for listen in ("0.0.0.0:4058", "127.0.0.1:0", "224.0.0.1:4058", "[::]:4058", "localhost:4058"):
         status, out, err = place.run("keys", "--head", "7", "--meters", "meters.csv", "--listen", listen)
         wants((status, out) == (2, "") and err[0].startswith(f"error: invalid value '{listen}' for '--listen <ADDR:PORT>'"),

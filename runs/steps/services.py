@@ -211,15 +211,16 @@ def a_head_end_is_refused(place):
         refused(place, "BookExists", f"--book {book}", "--new")
     refused(place, "ForeignHead", f"--book {book}", head="8")
     # Another image, another release, and a later serial number.
-    refused(place, "MeterBusy", "--open 1", *opening(folder, b"two"))
-    refused(place, "MeterBusy", "--open 1", "--open", "1", "--release", "3", "--image", image)
-    refused(place, "MeterBusy", "--open 2", *opening(folder, b"two", 2))
+    busy = "meter 1 is live in campaign 1"
+    refused(place, "MeterBusy", f"--open 1: {busy}", *opening(folder, b"two"))
+    refused(place, "MeterBusy", f"--open 1: {busy}", "--open", "1", "--release", "3", "--image", image)
+    refused(place, "MeterBusy", f"--open 2: {busy}", *opening(folder, b"two", 2))
     refused(place, "NoSuchCampaign", "--cancel 3", "--cancel", "3")
     # Campaign 1 is there, and would be cancelled.
     refused(place, "NoSuchCampaign", "--cancel 1,3", "--cancel", "1,3")
     refused(place, "NoSuchCampaign", "--cancel 3,1-2", "--cancel", "3,1-2")
     meters.write_text("1,127.0.0.1:9\nnone\n")
-    refused(place, "BadList 2", f"--meters {meters}")
+    refused(place, "BadList 2", f"--meters {meters}: the line has one field, and lacks the address of the meter")
     meters.write_text("".join(f"{number},127.0.0.1:{number}\n" for number in range(1, 258)))
     refused(place, "BadSetup", "--open 4294967295", *opening(folder, b"two", 4294967295))
     content = book.read_bytes()
@@ -230,6 +231,46 @@ def a_head_end_is_refused(place):
     mark = bytes.fromhex("0200000007000000010000000101")
     book.write_bytes(b"FWJ1\x01" + len(mark).to_bytes(4, "big") + mark + hashlib.sha256(mark).digest() + b"\x00")
     refused(place, "BadRecord 0", f"--book {book}")
+
+
+# To be seen: a line that is refused without its cause, or for another one; a number or an address that is said to stand in another line; a wave
+# that is taken for a name without an address; a file that is made.
+def a_bad_line_has_its_cause(place):
+    """Behind the list stands what is wrong with the line of it that is refused."""
+    meters = place.folder / "meters.csv"
+    number, above = "the first field is no number from 0 to 4294967295", "the number of the meter is above 4294967295"
+    address = "the second field is no address with a port, as 10.0.0.7:4059, [fd00::7]:4059 or meter.example:4059"
+    family = "the address is of another family than that of --listen: both are IPv4, or both IPv6"
+    host = "the address can't be asked, since it is unspecified, multicast or broadcast"
+    wave = "the third field is no wave, a number from 0 to 255"
+    for line, text, why, *listen in (
+        (2, b"1,127.0.0.1:9\n2\n", "the line has one field, and lacks the address of the meter"),
+        (1, b"1,127.0.0.1:9,1,\n", "the line has more than three fields"),
+        (1, b"1,127.0.0.1:9,\xff\n", "a field of the line isn't UTF-8"),
+        (1, b"meter,127.0.0.1:9\n", number),
+        (1, b"-1,127.0.0.1:9\n", number),
+        (1, b",127.0.0.1:9\n", number),
+        (1, b"4294967296,127.0.0.1:9\n", above),
+        (1, b"18446744073709551616,127.0.0.1:9\n", number),
+        (3, b"1,127.0.0.1:9\n2,127.0.0.1:10\n2,127.0.0.1:11\n", "line 2 has the same meter"),
+        (4, b"1,127.0.0.1:9\r\n\r\n2,127.0.0.1:10\r\n3,127.0.0.1:10\r\n", "line 3 has the same address"),
+        (2, b"1,127.0.0.1:9\n2,localhost:9\n", "line 1 has the same address"),
+        (1, b"1,127.0.0.1\n", address),
+        (1, b"1,127.0.0.1:65536\n", address),
+        (1, b"1,\n", address),
+        (1, b"1,localhost:0\n", "the system has no address for the name in the second field that --listen can ask"),
+        (1, b"1,127.0.0.1:0\n", "the port is 0, which can't be asked"),
+        (1, b"1,[::1]:9\n", family),
+        (1, b"1,127.0.0.1:9\n", family, "[::1]:0"),
+        (1, b"1,0.0.0.0:9\n", host),
+        (1, b"1,224.0.0.1:9\n", host),
+        (1, b"1,255.255.255.255:9\n", host),
+        (1, b"1,127.0.0.1:9,256\n", wave),
+        (1, b"1,localhost:9,first\n", wave),
+    ):
+        meters.write_bytes(text)
+        refused(place, f"BadList {line}", f"--meters {meters}: {why}", "--new", **({"listen": listen[0]} if listen else {}))
+    wants({it.name for it in place.folder.iterdir()} == {"meters.csv"}, "a file is made")
 
 
 # To be seen: a store that takes what isn't written for written; a meter that ends, or doesn't answer; one that goes on with what a failed
@@ -342,6 +383,7 @@ STEPS = [
     campaigns_are_cancelled_by_ranges,
     what_names_no_campaigns_is_refused,
     a_head_end_is_refused,
+    a_bad_line_has_its_cause,
     a_meter_on_a_full_disk,
     a_store_is_written_again,
     a_head_end_on_a_full_disk,

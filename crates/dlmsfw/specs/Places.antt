@@ -6,17 +6,18 @@ use Rattle.fw_disk.specs.declared.reason.Reason.{Reason}
 use Rattle.fw_disk.specs.declared.name.Name.{Name}
 use Rattle.fw_disk.specs.declared.name.Name.TheVariants.{Main}
 use Rattle.fw_faults.specs.declared.fault.Fault.{Fault}
-use Rattle.fw_faults.specs.declared.fault.Fault.TheVariants.{StoreFault, Device, BadFile, BadHeader, BadImage, FactoryFault, Socket, NoBook, BookExists, Locked, BookFault, BadBook, BadRecord, ForeignHead, Full, ListFault, BadList, ImageFault, BadSetup, OpenRefused, CancelRefused, CaptureFault, ForeignCapture, KeysFault, KeysReadable, BadKeys, NoKey, NoCounter, CounterExists, CounterLocked, CounterFault, CounterSpent}
+use Rattle.fw_faults.specs.declared.fault.Fault.TheVariants.{StoreFault, Device, BadFile, BadHeader, BadImage, FactoryFault, Socket, NoBook, BookExists, Locked, BookFault, BadBook, BadRecord, ForeignHead, Full, ListFault, BadList, ImageFault, BadSetup, OpenRefused, CancelRefused, TooManyFailed, CaptureFault, ForeignCapture, KeysFault, KeysReadable, BadKeys, NoKey, NoCounter, CounterExists, CounterLocked, CounterFault, CounterSpent}
+use Rattle.fw_cli.specs.declared.input_cause.InputCause.{InputCause}
 use Rattle.fw_cli.specs.declared.meter.MeterFault.{MeterFault}
 use Rattle.dlmsfw.specs.declared.cause.BookPlaces.{BookPlaces}
 use Rattle.dlmsfw.specs.declared.cause.BookPlace.{BookPlace}
-use Rattle.dlmsfw.specs.declared.cause.BookPlace.TheVariants.{Book, HeadListen, Meters, Image, Open, Cancel, Campaign, HeadCapture, HeadKeys, HeadCounter}
+use Rattle.dlmsfw.specs.declared.cause.BookPlace.TheVariants.{Book, HeadListen, Meters, Image, Open, Cancel, Campaign, Threshold, HeadCapture, HeadKeys, HeadCounter}
 use Rattle.dlmsfw.specs.declared.cause.MeterPlaces.{MeterPlaces}
 use Rattle.dlmsfw.specs.declared.cause.NamedFile.{NamedFile}
 use Rattle.dlmsfw.specs.declared.cause.Place.{Place}
 use Rattle.dlmsfw.specs.declared.cause.Place.TheVariants.{Listen, ListenOf, Store, FactoryFile, Capacity, Capture, Keys, Counter}
 use Rattle.dlmsfw.specs.declared.refusal.Refusal.{Refusal}
-use Rattle.dlmsfw.specs.Refusals.{reason_told}
+use Rattle.dlmsfw.specs.Refusals.{input_told, reason_told}
 
 -- the name of a file that a reason is about
 abbrev pub name_in : Option Reason → Name
@@ -96,6 +97,7 @@ book_place_in ImageFault name places = option_map Image places.image
 book_place_in BadSetup name places = option_map Open places.opened
 book_place_in (OpenRefused refusal) name places = option_map Open places.opened
 book_place_in (CancelRefused refusal) name places = cancelled_place (option_map Cancel places.cancel) (option_map Campaign places.campaign)
+book_place_in (TooManyFailed failed) name places = option_map Threshold places.max_failed
 book_place_in CaptureFault name places = option_map (λ path. HeadCapture (record { path = path; number = None; name = name })) places.capture
 book_place_in ForeignCapture name places = option_map (λ path. HeadCapture (record { path = path; number = None; name = name })) places.capture
 book_place_in KeysFault name places = option_map HeadKeys places.keys
@@ -120,9 +122,12 @@ TellsReason (Some (Keys file)) reason told = told ≡ reason_told reason
 TellsReason (Some (Counter file)) reason told = told ≡ reason_told reason
 TellsReason place reason told = Unit {0}
 
-abbrev pub TellsBookReason : Option BookPlace → Option Reason → Option Refusal → Type 0
-TellsBookReason (Some (Book file)) reason told = told ≡ reason_told reason
-TellsBookReason (Some (HeadCapture file)) reason told = told ≡ reason_told reason
-TellsBookReason (Some (HeadKeys file)) reason told = told ≡ reason_told reason
-TellsBookReason (Some (HeadCounter file)) reason told = told ≡ reason_told reason
-TellsBookReason place reason told = Unit {0}
+-- Of a threshold it is what the book shows.
+abbrev pub TellsBookReason : Option BookPlace → Option Reason → Option InputCause → Option Refusal → Type 0
+TellsBookReason (Some (Book file)) reason input told = told ≡ reason_told reason
+TellsBookReason (Some (HeadCapture file)) reason input told = told ≡ reason_told reason
+TellsBookReason (Some (HeadKeys file)) reason input told = told ≡ reason_told reason
+TellsBookReason (Some (HeadCounter file)) reason input told = told ≡ reason_told reason
+TellsBookReason (Some (Open serial)) reason input told = told ≡ input_told input
+TellsBookReason (Some (Threshold max_failed)) reason input told = told ≡ input_told input
+TellsBookReason place reason input told = Unit {0}

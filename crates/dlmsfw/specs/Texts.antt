@@ -4,6 +4,7 @@ use Rattle.std.specs.Net.Text.{socket_text}
 use Rattle.fw_disk.specs.Endings.{ending_of}
 use Rattle.fw_disk.specs.declared.name.Name.{Name}
 use Rattle.fw_disk.specs.declared.name.Name.TheVariants.{Main, New, Journal}
+use Rattle.fw_plan.specs.declared.threshold.MaxFailed.TheVariants as max
 use Rattle.dlmsfw.specs.declared.cause.CounterFile.{CounterFile}
 use Rattle.dlmsfw.specs.declared.cause.NamedFile.{NamedFile}
 use Rattle.dlmsfw.specs.declared.cause.Place.{Place}
@@ -47,6 +48,8 @@ book_place_text (book.Image file) = codes "--image " ++ file.now
 book_place_text (book.Open serial) = codes "--open " ++ decimal serial
 book_place_text (book.Cancel serials) = codes "--cancel " ++ serials.now
 book_place_text (book.Campaign serial) = codes "--campaign " ++ decimal serial
+book_place_text (book.Threshold (max.Rows most)) = codes "--max-failed " ++ decimal most
+book_place_text (book.Threshold (max.Percent most)) = codes "--max-failed " ++ (decimal most ++ codes "%")
 book_place_text (book.HeadCapture file) = codes "--capture " ++ file_text file
 book_place_text (book.HeadKeys file) = codes "--keys " ++ file.now
 book_place_text (book.HeadCounter file) = codes "--keys " ++ counter_text file

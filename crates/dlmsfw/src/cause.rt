@@ -8,10 +8,13 @@ ghost use Rattle.dlmsfw.specs.Texts.{book_place_text, counter_text, file_text, p
 
 use crate::refusal;
 use crate::refusal::Refusal;
-use fw_cli::{CancelOptions, GiveUpOptions, HeadOptions, MeterFault, MeterOptions, StatusOptions};
+use fw_cli::{
+    CancelOptions, GiveUpOptions, HeadOptions, InputCause, MeterFault, MeterOptions, StatusOptions,
+};
 use fw_disk::{Because, Name, Reason};
 use fw_faults::Fault;
 use fw_host::SealingOptions;
+use fw_plan::MaxFailed;
 use std::fmt;
 use std::net::{Ipv4Addr, Net, SocketAddr, UdpSocket};
 use std::rt::Files;
@@ -308,6 +311,8 @@ pub(crate) struct BookPlaces<'a> {
     cancel: Option<&'a str>,
     /// The campaign that a cancelling is of.
     campaign: Option<u32>,
+    /// How many rows of the earlier waves may fail.
+    max_failed: Option<MaxFailed>,
     capture: Option<&'a str>,
     keys: Option<&'a str>,
 }
@@ -327,6 +332,7 @@ impl<'a> BookPlaces<'a> {
             opened,
             cancel,
             campaign: None,
+            max_failed: Some(options.max_failed),
             capture: options.capture,
             keys: keys_of(options.sealing),
         }
@@ -357,6 +363,7 @@ impl<'a> BookPlaces<'a> {
             opened: None,
             cancel: None,
             campaign,
+            max_failed: None,
             capture: None,
             keys: None,
         }
@@ -380,6 +387,8 @@ pub(crate) enum BookPlace<'a> {
     Cancel(&'a str),
     /// The campaign that is cancelled.
     Campaign(u32),
+    /// How many rows of the earlier waves may fail.
+    Threshold(MaxFailed),
     /// The file of the capture.
     HeadCapture(NamedFile<'a>),
     /// The file of the keys.
@@ -400,6 +409,8 @@ impl fmt::Display for BookPlace<'_> {
             BookPlace::Open(serial) => write!(f, "--open {serial}"),
             BookPlace::Cancel(serials) => write!(f, "--cancel {serials}"),
             BookPlace::Campaign(serial) => write!(f, "--campaign {serial}"),
+            BookPlace::Threshold(MaxFailed::Rows(most)) => write!(f, "--max-failed {most}"),
+            BookPlace::Threshold(MaxFailed::Percent(most)) => write!(f, "--max-failed {most}%"),
             BookPlace::HeadCapture(file) => write!(f, "--capture {file}"),
             BookPlace::HeadKeys(file) => write!(f, "--keys {file}"),
             BookPlace::HeadCounter(file) => write!(f, "--keys {file}"),
@@ -436,6 +447,7 @@ pub(crate) fn book_place_of<'a>(
             Some(serials) => Some(BookPlace::Cancel(serials)),
             None => Some(BookPlace::Campaign(places.campaign?)),
         },
+        Fault::TooManyFailed(_) => Some(BookPlace::Threshold(places.max_failed?)),
         Fault::CaptureFault | Fault::ForeignCapture => Some(BookPlace::HeadCapture(NamedFile {
             path: places.capture?,
             number: None,
@@ -457,13 +469,14 @@ pub(crate) fn book_place_of<'a>(
 }
 
 /// Why what the fault of a head end is about is refused. Of a book, a capture, keys or counters it is the reason that came with the fault.
-/// Of an address, or of a file that is read, it is why the system refuses that now, if it does.
+/// Of an address, or of a file that is read, it is why the system refuses that now, if it does. Else it is what the list or the book shows.
 pub(crate) fn book_refusal_of(
     rt: &(impl Net + Files),
     because: &Because<Fault>,
     place: Option<BookPlace<'_>>,
+    input: Option<InputCause>,
 ) -> Option<Refusal>
-    ensures { TellsBookReason place.entry because.now.reason result }
+    ensures { TellsBookReason place.entry because.now.reason input result }
 {
     match (because.error, place?) {
         (_, BookPlace::Book(_)) => refusal::of_reason(because.reason),
@@ -473,6 +486,6 @@ pub(crate) fn book_refusal_of(
         (Fault::Socket, BookPlace::HeadListen(at)) => refusal::of_address(rt, at),
         (Fault::ListFault, BookPlace::Meters(path)) => refusal::of_file(rt, path),
         (Fault::ImageFault, BookPlace::Image(path)) => refusal::of_file(rt, path),
-        _ => None,
+        _ => refusal::of_input(input),
     }
 }

@@ -5,7 +5,7 @@ ghost use Rattle.dlmsfw.specs.KeyPlaces.{key_place_of, key_place_text, TellsKeyR
 
 use crate::refusal;
 use crate::refusal::Refusal;
-use fw_cli::{KeysFailure, KeysOptions};
+use fw_cli::{InputCause, KeysFailure, KeysOptions};
 use fw_faults::Fault;
 use fw_key_files::Owner;
 use std::fmt;
@@ -63,17 +63,19 @@ pub(crate) fn place_of<'a>(failure: &KeysFailure, places: &KeyPlaces<'a>) -> Opt
 }
 
 /// Why it is refused. Of a file that can't be made it is the reason that came with the fault. Of a list that can't be read it is why the
-/// system refuses that now, if it does.
+/// system refuses that now, if it does. Of a line of the list it is what the list shows.
 pub(crate) fn refusal_of(
     files: &impl Files,
     failure: &KeysFailure,
     places: &KeyPlaces<'_>,
+    input: Option<InputCause>,
 ) -> Option<Refusal>
     ensures { TellsKeyReason (key_place_of failure.now places.now) failure.now.reason result }
 {
     match failure.fault {
         Fault::KeysFault => refusal::of_reason(failure.reason),
         Fault::ListFault => refusal::of_file(files, places.meters),
+        Fault::BadList(_) => refusal::of_input(input),
         _ => None,
     }
 }

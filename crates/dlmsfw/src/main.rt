@@ -32,10 +32,11 @@ use cause::{BookPlaces, MeterPlaces, NamedFile, Place};
 use clap::error::ErrorKind;
 use fw_cli::{
     AnswerOptions, CancelFault, CancelOptions, Ended, GaveUp, GiveUpOptions, HeadOptions, HeadTold,
-    KeysFailure, KeysOptions, LedOut, LiveOptions, MeterFault, MeterOptions, NameOptions,
-    RehearseOptions, ReplayOptions, StatusOptions, StoredOptions, TraceKeys, run_answer,
-    run_answer_stored, run_cancel, run_give_up, run_head, run_keys, run_live, run_meter, run_name,
-    run_rehearse, run_replay, run_status, run_trace, trace_links,
+    InputCause, KeysFailure, KeysOptions, LedOut, LiveOptions, MeterFault, MeterOptions,
+    NameOptions, RehearseOptions, ReplayOptions, StatusOptions, StoredOptions, TraceKeys,
+    head_cause, keys_cause, run_answer, run_answer_stored, run_cancel, run_give_up, run_head,
+    run_keys, run_live, run_meter, run_name, run_rehearse, run_replay, run_status, run_trace,
+    trace_links,
 };
 use fw_disk::{Because, Cause, Name, Reason};
 use fw_faults::Fault;
@@ -94,12 +95,12 @@ enum Ending<'a> {
     Answer(Because<Fault>, &'a str),
     /// A fault of a meter with this address, these files and this capacity, or of one of several.
     Meter(MeterFault, MeterPlaces<'a>),
-    /// A fault of a head end with this address and these files, or of the book that is read.
-    Book(Because<Fault>, BookPlaces<'a>),
+    /// A fault of a head end with this address and these files, or of the book that is read, and its cause, if the list or the book shows it.
+    Book(Because<Fault>, BookPlaces<'a>, Option<InputCause>),
     /// The file of events or of metrics of a head end can't be made, opened or written.
     Told(Untold<'a>),
-    /// A fault of the making of keys from this list into this folder.
-    Keys(KeysFailure, KeyPlaces<'a>),
+    /// A fault of the making of keys from this list into this folder, and its cause, if the list shows it.
+    Keys(KeysFailure, KeyPlaces<'a>, Option<InputCause>),
     /// An event of a script was refused, and the command has reported it.
     Refused,
     /// A row that a head end led failed, and the command has reported it.
@@ -438,7 +439,11 @@ fn head<'a, R: AllocGlobal + Files<File = File> + Clock + Print + Eprint + Net +
         Ok(LedOut::NoneFailed) => Ok(()),
         Ok(LedOut::SomeFailed) => Err(Ending::RowsFailed),
         Ok(LedOut::SomeUnlisted) => Err(Ending::RowsUnlisted),
-        Err(because) => Err(Ending::Book(because, BookPlaces::of_head(options, shown.cancel))),
+        Err(because) => {
+            let input = head_cause(rt, alloc, options, because.error);
+            let places = BookPlaces::of_head(options, shown.cancel);
+            Err(Ending::Book(because, places, input))
+        }
     }
 }
 
@@ -461,6 +466,7 @@ fn cancel<'a, R: AllocGlobal + Files<File = File> + Print + Eprint>(
             Err(Ending::Book(
                 Because { error, reason },
                 BookPlaces::of_cancel(options, serial),
+                None,
             ))
         }
     }
@@ -478,7 +484,7 @@ fn give_up<'a, R: AllocGlobal + Files<File = File> + Clock + Print + Eprint>(
     match run_give_up(rt, rt.alloc(), writer, options) {
         Ok(GaveUp::Each) => Ok(()),
         Ok(GaveUp::NotEach) => Err(Ending::RowsLacking),
-        Err(because) => Err(Ending::Book(because, BookPlaces::of_give_up(options))),
+        Err(because) => Err(Ending::Book(because, BookPlaces::of_give_up(options), None)),
     }
 }
 
@@ -490,7 +496,10 @@ fn keys<'a, R: AllocGlobal + Files<File = File> + Print + Net + RandomSource>(
     let writer = &mut io::writer(rt);
     match run_keys(rt, rt.alloc(), writer, options) {
         Ok(()) => Ok(()),
-        Err(failure) => Err(Ending::Keys(failure, KeyPlaces::of(options))),
+        Err(failure) => {
+            let input = keys_cause(rt, rt.alloc(), options, failure.fault);
+            Err(Ending::Keys(failure, KeyPlaces::of(options), input))
+        }
     }
 }
 
@@ -502,7 +511,7 @@ fn status<'a, R: AllocGlobal + Files<File = File> + Print + Eprint>(
     let writer = &mut io::writer(rt);
     match run_status(rt, rt.alloc(), writer, &options) {
         Ok(()) => Ok(()),
-        Err(because) => Err(Ending::Book(because, BookPlaces::of_status(&options))),
+        Err(because) => Err(Ending::Book(because, BookPlaces::of_status(&options), None)),
     }
 }
 
@@ -619,16 +628,16 @@ fn report(rt: &(impl Print + Eprint + Net + Files), ending: Ending<'_>) -> ExitC
             let refusal = cause::refusal_of(rt, ended, place);
             fail_at(rt, ended.fault, place, refusal)
         }
-        Ending::Book(because, places) => {
+        Ending::Book(because, places, input) => {
             let place = cause::book_place_of(&because, places);
-            let refusal = cause::book_refusal_of(rt, &because, place);
+            let refusal = cause::book_refusal_of(rt, &because, place, input);
             fail_at(rt, because.error, place, refusal)
         }
         Ending::Told(untold) => {
             let refusal = Some(Refusal::File(untold.reason.cause));
             fail_at(rt, Fault::Output, Some(untold.place), refusal)
         }
-        Ending::Keys(failure, places) => fail_keys(rt, &failure, &places),
+        Ending::Keys(failure, places, input) => fail_keys(rt, &failure, &places, input),
         Ending::Refused => ExitCode::from(FAULT),
         Ending::RowsFailed => ExitCode::from(ROWS_FAILED),
         Ending::RowsUnlisted => ExitCode::from(ROWS_UNLISTED),
@@ -642,12 +651,17 @@ fn report(rt: &(impl Print + Eprint + Net + Files), ending: Ending<'_>) -> ExitC
 }
 
 /// Prints why the making of keys ended, as `fail_at` does.
-fn fail_keys(rt: &(impl Eprint + Files), failure: &KeysFailure, places: &KeyPlaces<'_>) -> ExitCode
+fn fail_keys(
+    rt: &(impl Eprint + Files),
+    failure: &KeysFailure,
+    places: &KeyPlaces<'_>,
+    input: Option<InputCause>,
+) -> ExitCode
     ensures { exit_status result ≡ 1 }
 {
     let fault = failure.fault;
     let _ = eprintln!(rt; "dlmsfw: {fault}");
-    let refusal = key_places::refusal_of(rt, failure, places);
+    let refusal = key_places::refusal_of(rt, failure, places, input);
     match key_places::place_of(failure, places) {
         Some(place) => match refusal {
             Some(refusal) => {

@@ -2,8 +2,9 @@
 //! open is closed.
 
 ghost use Rattle.std.specs.Prelude.{◌≡◌};
-ghost use Rattle.dlmsfw.specs.Refusals.{reason_told, refusal_of};
+ghost use Rattle.dlmsfw.specs.Refusals.{input_told, reason_told, refusal_of};
 
+use fw_cli::InputCause;
 use fw_disk::{Cause, Reason};
 use std::io::ErrorKind;
 use std::net::{Net, SocketAddr, UdpSocket};
@@ -28,6 +29,8 @@ pub(crate) enum Refusal {
     Other(ErrorKind),
     /// A cause that files have.
     File(Cause),
+    /// What the list or the book holds.
+    Input(InputCause),
 }
 
 impl fmt::Display for Refusal {
@@ -41,6 +44,7 @@ impl fmt::Display for Refusal {
             }
             Refusal::Other(kind) => return fmt::Display::fmt(kind, f),
             Refusal::File(cause) => return fmt::Display::fmt(cause, f),
+            Refusal::Input(cause) => return fmt::Display::fmt(cause, f),
         })
     }
 }
@@ -73,6 +77,16 @@ pub(crate) fn of_reason(reason: Option<Reason>) -> Option<Refusal>
 {
     match reason {
         Some(reason) => Some(Refusal::File(reason.cause)),
+        None => None,
+    }
+}
+
+/// Why what was to be done is refused, if the list or the book shows it.
+pub(crate) fn of_input(input: Option<InputCause>) -> Option<Refusal>
+    ensures { result ≡ input_told input }
+{
+    match input {
+        Some(cause) => Some(Refusal::Input(cause)),
         None => None,
     }
 }

@@ -18,3 +18,4 @@ pub mod Keyed
 pub mod Traced
 pub mod Dissected
 pub mod Rollouts
+pub mod Inputs

@@ -10,6 +10,7 @@ pub mod Replaying
 pub mod Rehearsing
 pub mod Scripts
 pub mod Heads
+pub mod InputCauses
 pub mod Beginning
 pub mod Cancelling
 pub mod GivingUp

@@ -107,7 +107,7 @@ fn tell_untaken<F: Eprint>(rt: &F, alloc: Global, records: usize) {
 }
 
 /// All bytes of the file of a book.
-fn bytes_of_book<F: Files<File = File>>(
+pub(crate) fn bytes_of_book<F: Files<File = File>>(
     rt: &F,
     alloc: Global,
     path: &str,
