@@ -582,16 +582,21 @@ def rests_of(process):
     return int(re.search(r"^voluntary_ctxt_switches:\s*(\d+)$", pathlib.Path(f"/proc/{process.pid}/status").read_text(), re.M)[1])
 
 
+def waits_often(process):
+    """Whether it waits more than a hundred times a second, in a silence."""
+    before, began = rests_of(process), time.monotonic()
+    time.sleep(SILENCE)
+    return rests_of(process) - before > 100 * (time.monotonic() - began)
+
+
 # To be seen: a fleet that never waits.
 def a_quiet_fleet_rests(place):
     """A fleet to which nothing comes waits again and again, also after something came, and doesn't take the processor for itself."""
     head, fleet = Head(), Members(place.folder, 2)
     with fleet.meter.killed() as meter:
         for _ in range(2):
-            before, began = rests_of(meter.process), time.monotonic()
-            time.sleep(SILENCE)
-            rests, seconds = rests_of(meter.process) - before, time.monotonic() - began
-            wants(rests > 100 * seconds, f"in {seconds} s of silence it waits {rests} times")
+            # (other programs may have the processors in one silence, and hardly in ten)
+            wants(any(waits_often(meter.process) for _ in range(10)), "in silence it doesn't wait a hundred times a second")
             got = head.ask(fleet.at[1], GET_STATUS)
             wants(got == STATUS % 0, f"then it answers {got}")
 
