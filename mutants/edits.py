@@ -6,6 +6,8 @@ ROOT = os.path.dirname(os.path.dirname(os.path.realpath(__file__)))
 # The folders in mutants/ whose edits tests see, and runs of the program; each other one has the edits of a crate, which the prover refuses.
 TRIED_BY_TESTS = "by_tests"
 TRIED_BY_RUNS = "by_runs"
+# The folder of the crates of tests.
+TESTS = "tests"
 
 
 class Unfit(Exception):
@@ -76,14 +78,22 @@ def listed(folder):
 
 
 def sources():
-    """The bytes of each file that git has or would have, by its path in the repository."""
+    """The bytes of each file of a crate that git has or would have, by its path in the repository. Crates of tests are kept as text: of these it
+    is the path in a copy in which they are crates as all others."""
     words = ["git", "ls-files", "-z", "-c", "-o", "--exclude-standard"]
     listed = subprocess.run(words, cwd=ROOT, stdout=subprocess.PIPE, check=True).stdout.decode().split("\0")
-    found = {}
-    for path in listed:
-        if path.split("/")[0] in ("crates", "crates.txt", "HANDLES") and os.path.isfile(f"{ROOT}/{path}"):
-            with open(f"{ROOT}/{path}", "rb") as it:
-                found[path] = it.read()
+    found, lines = {}, []
+    for path in filter(lambda it: os.path.isfile(f"{ROOT}/{it}"), listed):
+        top, _, inner = path.partition("/")
+        if top not in ("crates", "crates.txt", "HANDLES", TESTS) or path == f"{TESTS}/run":
+            continue
+        with open(f"{ROOT}/{path}", "rb") as it:
+            text = it.read()
+        if path.endswith("/crate.txt"):
+            lines.append(text)
+        else:
+            found[f"crates/{inner.removesuffix('.txt')}" if top == TESTS else path] = text
+    found["crates.txt"] += b"".join(lines)
     return found
 
 

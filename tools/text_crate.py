@@ -1,7 +1,7 @@
-"""Crates that the gate hasn't: each is kept as text, and is proved when its program of tests is first wanted.
+"""Crates that the gate doesn't prove: each is kept as text, and is proved when its program of tests is first wanted.
 
-The folder of such a crate has `crate.txt`, its line of crates.txt, and `src`, its sources with `.txt` after the names that they have in the
-crate. The gate refuses a `.rt` file outside `crates/`, and takes each crate there.
+The folder of such a crate has `crate.txt`, its line of crates.txt, and its sources with `.txt` after the names that they have in the crate.
+The gate refuses a `.rt` file outside `crates/`, and proves each crate there.
 """
 
 import pathlib
@@ -30,7 +30,7 @@ class TextCrate:
         self.folder = folder
         self.line = (folder / "crate.txt").read_text()
         self.name = name_of(self.line)
-        self.sources = sorted(folder.glob("src/*.rt.txt"))
+        self.sources = sorted(it for it in folder.rglob("*.txt") if it.name != "crate.txt")
         self.program = folder.parent / "out" / f"{self.name}_tests"
 
     def build(self):
@@ -38,14 +38,23 @@ class TextCrate:
 
         `rt ci` does it in a copy, which is removed. Of the crates below it takes what it proved on this machine before, as in the gate.
         """
-        made_from = [ROOT / "crates.txt", self.folder / "crate.txt", *self.sources, *ROOT.glob("crates/*/src/**/*.rt")]
+        below, texts = self._below()
+        made_from = [ROOT / "crates.txt", *ROOT.glob("crates/*/src/**/*.rt")]
+        made_from += [source for it in [self, *texts] for source in [it.folder / "crate.txt", *it.sources]]
         if self.program.exists() and self.program.stat().st_mtime > max(source.stat().st_mtime for source in made_from):
             return
         with tempfile.TemporaryDirectory() as copy:
-            crate = self._copied(pathlib.Path(copy))
+            self._copy(pathlib.Path(copy), below, texts)
             self._prove(copy)
             self.program.parent.mkdir(exist_ok=True)
-            shutil.copy(crate / "out" / self.program.name, self.program)
+            shutil.copy(pathlib.Path(copy) / "crates" / self.name / "out" / self.program.name, self.program)
+
+    def put(self, to):
+        """Makes a crate of the text, in the repository `to`."""
+        for source in self.sources:
+            place = to / "crates" / self.name / source.relative_to(self.folder).with_suffix("")
+            place.parent.mkdir(parents=True, exist_ok=True)
+            shutil.copyfile(source, place)
 
     def _prove(self, copy):
         """Proves all crates of a copy. Where that fails, what was printed is shown, and all ends."""
@@ -55,28 +64,28 @@ class TextCrate:
             sys.exit(f"{done.stdout}{self.folder.parent.name}: rt ci of {self.name} failed")
 
     def _below(self):
-        """The crates of this repository that it stands on: the line of crates.txt of each, by its name."""
+        """What it stands on: the lines of the repository's crates, by their names, and its crates of tests."""
         lines = {name_of(line): line for line in (ROOT / "crates.txt").read_text().splitlines() if ":" in line and line[0] != "#"}
-        below, names = {}, uses_of(self.line)
+        tests = {it.parent.name: it.parent for it in ROOT.glob("tests/*/crate.txt")}
+        below, texts, names = {}, {}, uses_of(self.line)
         while names:
             name = names.pop()
             if name in lines and name not in below:
                 below[name] = lines[name]
                 names += uses_of(lines[name])
-        return below
+            elif name in tests and name not in texts:
+                texts[name] = TextCrate(tests[name])
+                names += uses_of(texts[name].line)
+        return below, [*texts.values()]
 
-    def _copied(self, to):
-        """Makes a repository of this crate and those below it, and gives the place of this one."""
-        below = self._below()
+    def _copy(self, to, below, texts):
+        """Makes a repository of this crate and those below it."""
         for name in below:
             for part in ("src", "specs", "proofs"):
                 if (ROOT / "crates" / name / part).is_dir():
                     shutil.copytree(ROOT / "crates" / name / part, to / "crates" / name / part)
-        place = to / "crates" / self.name
-        (place / "src").mkdir(parents=True)
-        for source in self.sources:
-            shutil.copyfile(source, place / "src" / source.stem)
+        for it in [self, *texts]:
+            it.put(to)
         (to / ".git").mkdir()
         shutil.copy(ROOT / "HANDLES", to)
-        (to / "crates.txt").write_text("\n".join([*below.values(), self.line]))
-        return place
+        (to / "crates.txt").write_text("\n".join([*below.values(), *(it.line.strip() for it in texts), self.line]))
