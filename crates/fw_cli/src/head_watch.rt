@@ -8,8 +8,8 @@ use fw_events::{Event, Figures, ToldRows, untold_events};
 use fw_faults::Fault;
 use fw_head::HeadCore;
 use fw_host::{EventFile, HeadProgress, MetricsFile};
+use fw_names::CampaignId;
 use fw_rollout::{Counts, HeadWatch, Stuck};
-use fw_rows::push_noted;
 use fw_status::push_campaigns;
 use std::alloc::{AllocError, Global};
 use std::fs::File;
@@ -57,17 +57,21 @@ impl<'a, R: Files<File = File>> HeadTold<'a, R> {
     }
 
     /// Tells of each row that ended and of which no event told: a kill may come between a commit and an event, and `cancel` and `give-up` end
-    /// rows without one.
+    /// rows without one. The events of one campaign at most are in memory.
     pub(crate) fn catch_up(&self, alloc: Global, book: &Book, notes: &Notes) -> Result<(), Fault>
         ensures faults { IfErr result (λ f. f ≡ Fault.OutOfMemory) }
     {
         let (Some(events), Some(told)) = (self.events, self.rows) else {
             return Ok(());
         };
-        let mut rows = Vec::new(alloc);
-        push_noted(&mut rows, book, notes)?;
-        for event in &untold_events(alloc, told, &rows)? {
-            events.tell(*event);
+        let head = book.head();
+        for (serial, offer) in book.rows() {
+            let Some(campaign) = CampaignId::new(head, *serial) else {
+                continue;
+            };
+            for event in &untold_events(alloc, told, notes, campaign, offer.rows())? {
+                events.tell(*event);
+            }
         }
         events.sync();
         Ok(())

@@ -3,3 +3,4 @@ pub mod Shallow
 pub mod OneLine
 pub mod Found
 pub mod Parts
+pub mod Lacking

@@ -4,11 +4,12 @@ use Rattle.std.specs.HashSet.{contains}
 use Rattle.serde_json.specs.Data.{Data}
 use Rattle.serde_json.specs.Find.{as_number, as_str, as_u64, get}
 use Rattle.serde_json.specs.Read.{read}
-use Rattle.fw_book.specs.Notes.{place}
+use Rattle.fw_names.specs.Name.{Campaign}
+use Rattle.fw_book.specs.declared.row.Row.{Row}
+use Rattle.fw_book.specs.Notes.{Known, end_of, place}
 use Rattle.fw_book.specs.Rows.{is_live}
-use Rattle.fw_rows.specs.Noted.{Noted}
 use Rattle.fw_events.specs.declared.event.Event.{Event}
-use Rattle.fw_events.specs.declared.event.Event.TheVariants.{Row}
+use Rattle.fw_events.specs.declared.event.Event.TheVariants as event
 use Rattle.fw_events.specs.declared.told.ToldRows.{ToldRows}
 
 -- ---- what a line tells
@@ -53,12 +54,12 @@ tells_of told row = contains nat_eq told.places row
 
 -- ---- what they lack
 
--- the event of a row that ended, if none tells of it
-abbrev pub untold_event : ToldRows → Noted → List Event
-untold_event told noted =
-    if is_live noted.row.state || tells_of told (place noted.row.serial noted.row.meter) then []
-    else (Row noted.row.serial noted.row.meter noted.row.state noted.end ∷ [])
+-- the event of a row of a campaign that ended, if none tells of it
+abbrev pub untold_event : ToldRows → Known → Campaign → Row → List Event
+untold_event told known campaign row =
+    if is_live row.state || tells_of told (place campaign.serial row.meter) then []
+    else (event.Row campaign.serial row.meter row.state (end_of known campaign.serial row.meter) ∷ [])
 
 -- in the order of the rows
-abbrev pub untold_events : ToldRows → List Noted → List Event
-untold_events told rows = flat_map (λ (noted : Noted). untold_event told noted) rows
+abbrev pub untold_events : ToldRows → Known → Campaign → List Row → List Event
+untold_events told known campaign rows = flat_map (λ (row : Row). untold_event told known campaign row) rows

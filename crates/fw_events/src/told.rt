@@ -18,8 +18,8 @@ ghost use Rattle.fw_events.specs.Told.{
 };
 
 use crate::event::Event;
-use fw_names::HeadId;
-use fw_rows::NotedRow;
+use fw_book::{Notes, Row};
+use fw_names::{CampaignId, HeadId};
 use serde_json::Value;
 use std::alloc::{AllocError, Global};
 use std::collections::HashSet;
@@ -72,7 +72,7 @@ impl ToldRows {
     }
 }
 
-/// The events of those of these rows that ended and of which no event tells, in their order.
+/// The events of those of these rows of a campaign that ended and of which no event tells, in their order.
 ///
 /// # Errors
 ///
@@ -80,30 +80,39 @@ impl ToldRows {
 pub fn untold_events(
     alloc: Global,
     told: &ToldRows,
-    rows: &[NotedRow],
+    notes: &Notes,
+    campaign: CampaignId,
+    rows: &[Row],
 ) -> Result<Vec<Event>, AllocError>
-    ensures { IfOk result (λ events. events.items ≡ untold_events told.now rows.now) }
+    ensures { IfOk result (λ events. events.items ≡ untold_events told.now notes.now campaign rows.now) }
 {
     let mut events = Vec::new(alloc);
     for row in rows {
-        push_untold(&mut events, told, row)?;
+        push_untold(&mut events, told, notes, campaign, row)?;
     }
     Ok(events)
 }
 
-/// Adds the event of a row, if it ended and no event tells of it.
-fn push_untold(events: &mut Vec<Event>, told: &ToldRows, noted: &NotedRow) -> Result<(), AllocError>
-    ensures { OnOk result (events.new.items ≡ events.old.items ++ untold_event told.now noted.now) }
+/// Adds the event of a row of a campaign, if it ended and no event tells of it.
+fn push_untold(
+    events: &mut Vec<Event>,
+    told: &ToldRows,
+    notes: &Notes,
+    campaign: CampaignId,
+    row: &Row,
+) -> Result<(), AllocError>
+    ensures { OnOk result (events.new.items ≡ events.old.items ++ untold_event told.now notes.now campaign row.now) }
 {
-    let row = noted.row;
-    if row.state.is_live() || told.has(row.serial, row.meter) {
+    let serial = campaign.serial();
+    let meter = row.meter.number();
+    if row.state.is_live() || told.has(serial, meter) {
         return Ok(());
     }
     events.push(Event::Row {
-        serial: row.serial,
-        meter: row.meter,
+        serial,
+        meter,
         state: row.state,
-        end: noted.end,
+        end: notes.end_of(campaign, row.meter),
     })?;
     Ok(())
 }
