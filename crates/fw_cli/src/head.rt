@@ -184,7 +184,6 @@ pub fn run_head<R: Files<File = File> + Clock + Eprint + Net + Wait, W: Write>(
 {
     let Ready {
         port,
-        at,
         file,
         mut asked,
         mut kept,
@@ -192,7 +191,7 @@ pub fn run_head<R: Files<File = File> + Clock + Eprint + Net + Wait, W: Write>(
         sealing,
     } = set_up(rt, alloc, options)?;
     let strangers = strangers_of(alloc, options, asked.list.meters().meters())?;
-    tell_listening(alloc, writer, at)?;
+    tell_listening(alloc, writer, &port)?;
     tell_going_on(rt, kept.head().view().book);
     told.start(kept.head().view().book);
     let mut lines = Lines::new(alloc, writer);
@@ -204,7 +203,6 @@ pub fn run_head<R: Files<File = File> + Clock + Eprint + Net + Wait, W: Write>(
     let mut daemon = daemon_of(alloc, kept, options)?;
     let port = RecordedPort {
         port,
-        at,
         strangers,
         file,
         capture: options.capture,
@@ -275,8 +273,7 @@ fn strangers_of(
 /// All that the command needs before its first line.
 #[derive(Drop)]
 struct Ready {
-    port: UdpPort,
-    at: SocketAddr,
+    port: Listening,
     /// The file of the capture, if one is asked for.
     file: Option<CaptureFile>,
     asked: Asked,
@@ -325,7 +322,7 @@ fn set_up<R: Files<File = File> + Clock + Eprint + Net>(
         options.head,
         asked.list.meters().meters(),
     )?;
-    let Listening { port, at } = Listening::of(UdpPort::bind_for(rt, options.listen, WAIT_LIMIT))?;
+    let port = Listening::of(UdpPort::bind_for(rt, options.listen, WAIT_LIMIT))?;
     let Led {
         kept,
         changes,
@@ -334,7 +331,6 @@ fn set_up<R: Files<File = File> + Clock + Eprint + Net>(
     } = led_head(rt, alloc, options, &asked, keyed)?;
     Ok(Ready {
         port,
-        at,
         file,
         asked,
         kept,
@@ -583,8 +579,10 @@ fn lead<R: Files<File = File> + Clock + Eprint + Wait, W: Write, D: JournalDevic
     ensures faults { IfErr result (λ b. IsOfStop b.error) }
 {
     let RecordedPort {
-        port: mut socket,
-        at,
+        port: Listening {
+            port: mut socket,
+            at,
+        },
         mut strangers,
         mut file,
         capture,

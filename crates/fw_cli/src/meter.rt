@@ -201,7 +201,7 @@ fn serve_one<R: Files<File = File> + Clock + Eprint + Net + Wait, W: Write>(
     ensures keyed { IfErr result (λ b. IsKeyed options.now.sealing b.error) }
     ensures faults { IfErr result (λ b. IsOfMeter b.error) }
 {
-    let Listening { port, at } = Listening::of(UdpPort::bind(rt, options.listen))?;
+    let port = Listening::of(UdpPort::bind(rt, options.listen))?;
     let keyed = keyed_meter(rt, alloc, options.listen, options.sealing)?;
     let judged = Judge::of(options.fresh).meter(rt, alloc, options.store)?;
     let links = JudgedSealing::of(rt, alloc, keyed)?;
@@ -217,7 +217,6 @@ fn serve_one<R: Files<File = File> + Clock + Eprint + Net + Wait, W: Write>(
         writer,
         RecordedPort {
             port,
-            at,
             strangers,
             file,
             capture: options.capture,
@@ -252,8 +251,7 @@ pub(crate) fn strangers_of(
 /// are sealed with, if there are keys.
 #[derive(Drop)]
 pub(crate) struct RecordedPort<'a> {
-    pub(crate) port: UdpPort,
-    pub(crate) at: SocketAddr,
+    pub(crate) port: Listening,
     pub(crate) strangers: Strangers,
     pub(crate) file: Option<CaptureFile>,
     pub(crate) capture: Option<&'a str>,
@@ -283,14 +281,17 @@ fn serve_daemon<R: Files<File = File> + Clock + Wait, W: Write>(
     ensures faults { IfErr result (λ b. IsOfServing b.error) }
 {
     let RecordedPort {
-        port: mut socket,
-        at,
+        port,
         mut strangers,
         mut file,
         capture,
         sealing,
     } = port;
-    tell_listening(alloc, writer, at)?;
+    tell_listening(alloc, writer, &port)?;
+    let Listening {
+        port: mut socket,
+        at,
+    } = port;
     let mut lines = Lines::new(alloc, writer);
     let recorder = file.as_mut();
     let mut port = CapturePort::of_meter(rt, alloc, &mut socket, at, &mut strangers, recorder);
@@ -521,16 +522,16 @@ impl<'a, 'w, C: Clock, W: Write> FleetWatch for Teller<'a, 'w, C, W> {
     }
 }
 
-/// Writes at which address datagrams are received.
+/// Writes at which address datagrams are received: the one that this port has.
 pub(crate) fn tell_listening<W: Write>(
     alloc: Global,
     writer: &mut W,
-    at: SocketAddr,
+    port: &Listening,
 ) -> Result<(), Fault>
-    ensures written { OnOk result (Appends (W.contents writer.old) (W.contents writer.new) (listening_line at)) }
+    ensures written { OnOk result (Appends (W.contents writer.old) (W.contents writer.new) (listening_line port.now.at)) }
     ensures silent { IfErr result (λ f. f ≢ Fault.Output → Keeps (W.contents writer.old) (W.contents writer.new)) }
     ensures faults { IfErr result (λ f. (f ≡ Fault.Output) ⊎ (f ≡ Fault.OutOfMemory)) }
 {
-    let line = listening_line(alloc, at)?;
+    let line = listening_line(alloc, port.at)?;
     write_text(writer, line.as_str())
 }
