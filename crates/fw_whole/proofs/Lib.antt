@@ -1,0 +1,2 @@
+mod Stores
+mod Finding
