@@ -6,18 +6,17 @@ use Rattle.std.proofs.Math.Seq.{take-add}
 use Rattle.std.proofs.lemmas.List.{length-drop, length-take, length-take-le, take-append-drop}
 use Rattle.std.proofs.lemmas.List.Elements.{All-contains}
 use Rattle.std.specs.declared.net.socket_addr.SocketAddr.{SocketAddr}
-use Rattle.fw_names.specs.Name.{Name}
 use Rattle.fw_image.specs.Meter.{Image, Meter, reopened}
 use Rattle.fw_audit.specs.Log.{Item, started, log_of}
 use Rattle.fw_audit.specs.Stands.{ended, left_by, IsLog, IsMeterLog, Leads}
 use Rattle.fw_audit.specs.Departures.{IsDeparture, IsRefused}
-use Rattle.fw_audit.specs.Private.{Adds, AllDepart, AreAllLeft, AreOutlived, HasMeter, IsAudited, IsChosen, IsFrom, IsLeft}
+use Rattle.fw_audit.specs.Private.{Adds, AllDepart, AreAllLeft, AreOutlived, HasMeter, IsChosen, IsFrom, IsLeft}
 use Rattle.fw_audit.specs.declared.error.AuditError.{AuditError}
 use Rattle.fw_audit.specs.declared.error.Departure.{Departure}
 use Rattle.fw_audit.specs.declared.error.Rule.TheVariants as broken
 use Rattle.fw_audit.specs.declared.item.LogItem.{LogItem}
 use Rattle.fw_audit.specs.declared.life.Left.{Left}
-use Rattle.fw_audit.proofs.Leading.{append, names_on, one_made, restart_from, restart_to, split, start_off, start_on}
+use Rattle.fw_audit.proofs.Leading.{append, images_on, one_made, restart_from, restart_to, split, start_off, start_on}
 use Rattle.fw_audit.proofs.Steps.{alive_before}
 use Rattle.fw_audit.proofs.Lives.{departs_longer}
 use Rattle.fw_audit.proofs.Gathering.{all_from, in_cons, none_in, popped, some_one}
@@ -27,7 +26,7 @@ use Rattle.fw_audit.proofs.Items.{log_size, log_slice}
 
 pub begins : (heads : List SocketAddr) (begin : Meter) (left : Left) (lefts : List Left) → left.meter.meter ≡ begin → left.switched.items ≡ [] → reopened left.meter.meter ≡ left.meter.meter → Adds [] left lefts
     → AreAllLeft heads begin [] lefts
-begins heads begin left lefts is names rests adds = record {
+begins heads begin left lefts is so_far rests adds = record {
   some = adds.some;
   each = all_from (IsLeft heads [] begin []) lefts (λ any there. by_place any (adds.only any there));
   all = λ images stand h. subst (HasMeter lefts) (is ∙ sym (ap left_by h.1)) adds.has;
@@ -39,7 +38,7 @@ begins heads begin left lefts is names rests adds = record {
       stand = ended begin;
       leads = (refl, refl);
       left = is;
-      names = names;
+      so_far = so_far;
       rests = rests;
       size = ap (λ (m : Meter). m.capacity) is;
     }
@@ -94,7 +93,7 @@ left_on heads begin front body left new first second = record {
   leads = append heads (ended begin) first.stand second.stand front (started ∷ body) first.images second.images first.leads
       (restart_to heads first.stand second.stand left.meter.meter body second.images first.left second.leads);
   left = second.left;
-  names = names_on [] left.switched.items new.switched.items first.images second.images first.names second.names;
+  so_far = images_on [] left.switched.items new.switched.items first.images second.images first.so_far second.so_far;
   rests = second.rests;
   size = second.size ∙ first.size;
 }
@@ -174,11 +173,15 @@ pub record Looks (lefts rest : List Left) (end : Meter) : Type 0 where
   pub is : lefts ≡ rest ++ done
   pub none : (left : Left) → Contains done left → left.meter.meter ≡ end → ⊥
 
-pub found_left : (heads : List SocketAddr) (begin end : Meter) (log : List Item) (lefts : List Left) (left : Left) (names : List Name) → AreAllLeft heads begin log lefts → Contains lefts left
-    → left.meter.meter ≡ end → names ≡ left.switched.items → IsAudited heads begin log end names
-found_left heads begin end log lefts left names are there same told =
+pub found_left : (heads : List SocketAddr) (begin end : Meter) (log : List Item) (lefts : List Left) (left : Left) (images : List Image) → AreAllLeft heads begin log lefts → Contains lefts left
+    → left.meter.meter ≡ end → images ≡ left.switched.items → IsMeterLog heads begin log images end
+found_left heads begin end log lefts left images are there same told =
     let is : IsLeft heads [] begin log left = All-contains (IsLeft heads [] begin log) lefts left are.each there in
-    (is.images, told ∙ is.names, record { stand = is.stand; leads = is.leads; left = sym same ∙ is.left })
+    record {
+      stand = is.stand;
+      leads = subst (λ (l : List Image). Leads heads (ended begin) log l is.stand) (sym (told ∙ is.so_far)) is.leads;
+      left = sym same ∙ is.left;
+    }
 
 pub is_log : (heads : List SocketAddr) (begin : Meter) (log : List Item) (lefts : List Left) → AreAllLeft heads begin log lefts → IsLog heads begin log
 is_log heads begin log lefts are =
@@ -208,14 +211,14 @@ looks_more lefts rest less left end looks pops other = record {
 
 -- ---- what a choice says
 
-pub chosen_ok : (heads : List SocketAddr) (begin end : Meter) (log : List Item) (result : Result (Vec Name) AuditError) → IsChosen heads begin log end result
-    → IfOk result (λ names. IsAudited heads begin log end names.items)
-chosen_ok heads begin end log (Ok names) h = h
+pub chosen_ok : (heads : List SocketAddr) (begin end : Meter) (log : List Item) (result : Result (Vec Image) AuditError) → IsChosen heads begin log end result
+    → IfOk result (λ images. IsMeterLog heads begin log images.items end)
+chosen_ok heads begin end log (Ok images) h = h
 chosen_ok heads begin end log (Err error) h = tt
 
-pub chosen_err : (heads : List SocketAddr) (begin end : Meter) (log : List Item) (result : Result (Vec Name) AuditError) → IsChosen heads begin log end result
+pub chosen_err : (heads : List SocketAddr) (begin end : Meter) (log : List Item) (result : Result (Vec Image) AuditError) → IsChosen heads begin log end result
     → IfErr result (λ error. IsRefused heads begin log end error)
-chosen_err heads begin end log (Ok names) h = tt
+chosen_err heads begin end log (Ok images) h = tt
 chosen_err heads begin end log (Err error) h = h
 
 -- ---- a life among the items

@@ -1,12 +1,10 @@
 -- Items after items, and what is between them.
 use Rattle.std.proofs.Common.{◌≡◌, ◌++◌, List, [], ◌∷◌, refl, sym, ap, subst, ◌∙◌, append_assoc, append-nil}
-use Rattle.std.proofs.lemmas.List.{map-append}
 use Rattle.std.specs.declared.net.socket_addr.SocketAddr.{SocketAddr}
-use Rattle.fw_names.specs.Name.{Name}
 use Rattle.fw_image.specs.Meter.{Image, Meter, migrated}
 use Rattle.fw_audit.specs.Log.{Item, started}
-use Rattle.fw_audit.specs.Stands.{Stand, ended, waits, left_by, names_of, Leads, Makes}
-use Rattle.fw_audit.specs.Private.{HasNames}
+use Rattle.fw_audit.specs.Stands.{Stand, ended, waits, left_by, Leads, Makes}
+use Rattle.fw_audit.specs.Private.{HasImages}
 
 -- one item
 pub after_one : (heads : List SocketAddr) (old new : Stand) (item : Item) (images : List Image) → Makes heads old item images new → Leads heads old (item ∷ []) images new
@@ -50,12 +48,8 @@ split heads old new (item ∷ front) back images (next, first, rest, makes, lead
       all = all ∙ ap (λ (l : List Image). first ++ l) s.all ∙ sym (append_assoc first s.first s.rest);
     }
 
-pub names_on : (had names more : List Name) (images others : List Image) → HasNames had images names → HasNames names others more → HasNames had (images ++ others) more
-names_on had names more images others first second =
-    second
-    ∙ ap (λ (l : List Name). l ++ names_of others) first
-    ∙ append_assoc had (names_of images) (names_of others)
-    ∙ ap (λ (l : List Name). had ++ l) (sym (map-append (λ (image : Image). image.name) images others))
+pub images_on : (had so_far more images others : List Image) → HasImages had images so_far → HasImages so_far others more → HasImages had (images ++ others) more
+images_on had so_far more images others first second = second ∙ ap (λ (l : List Image). l ++ others) first ∙ append_assoc had images others
 
 -- ---- a start
 

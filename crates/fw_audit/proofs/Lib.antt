@@ -1,4 +1,5 @@
 mod Sizes
+mod Running
 mod Leading
 mod Steps
 mod Items

@@ -1,6 +1,5 @@
 -- One item, and where it leads.
 use Rattle.std.proofs.Common.{◌≡◌, ◌++◌, ℕ, Bool, true, IsTrue, List, [], Option, Some, None, inl, inr, refl, sym, ap, subst, ◌∙◌}
-use Rattle.std.specs.Prelude.{option_to_list}
 use Rattle.std.specs.declared.net.socket_addr.SocketAddr.{SocketAddr}
 use Rattle.fw_names.specs.Name.{Name}
 use Rattle.fw_image.specs.Laws.{OneTurn}
@@ -12,7 +11,7 @@ use Rattle.fw_meter.specs.Handling.{Handles}
 use Rattle.fw_meter.specs.Laws.{OneAnswer}
 use Rattle.fw_stored.specs.Stored.{IsSound}
 use Rattle.fw_audit.specs.Log.{Item, started, came, sent, turned}
-use Rattle.fw_audit.specs.Stands.{Stand, ended, waits, owes, left_by, names_of, owing, switched_to, Hears, Makes, MayAsk, TakesTurn}
+use Rattle.fw_audit.specs.Stands.{Stand, ended, waits, owes, left_by, owing, switched_to, Hears, Makes, MayAsk, TakesTurn}
 use Rattle.fw_audit.specs.Private.{Alive, IsNext, IsOpen, stand_of}
 use Rattle.fw_audit.specs.declared.going.Going.{Going}
 use Rattle.fw_audit.proofs.Sizes.{handled_size, turned_size}
@@ -63,53 +62,49 @@ turned_once turn old after takes others new (verifies, inr h) alive = absurd (no
 
 -- ---- the steps
 
-names_switched : (name : Option Name) (after : Meter) → names_of (switched_to name after) ≡ option_to_list name
-names_switched None after = refl
-names_switched (Some name) after = refl
-
-pub heard_next : OneAnswer → (heads : List SocketAddr) (had : List Name) (old : Meter) (from : SocketAddr) (datagram : List ℕ) (reply : Option (List ℕ)) (name : Option Name) (next : Going)
+pub heard_next : OneAnswer → (heads : List SocketAddr) (had : List Image) (old : Meter) (from : SocketAddr) (datagram : List ℕ) (reply : Option (List ℕ)) (name : Option Name) (next : Going)
     → MayAsk heads from → Handles true IsTrue old datagram reply name next.meter.meter → stand_of next ≡ owing from reply next.meter.meter
-    → next.switched.items ≡ had ++ option_to_list name → IsSound next.meter → IsNext heads had (waits old) (came from datagram) next
-heard_next answer heads had old from datagram reply name next may handles stands names sound = record {
+    → next.switched.items ≡ had ++ switched_to name next.meter.meter → IsSound next.meter → IsNext heads had (waits old) (came from datagram) next
+heard_next answer heads had old from datagram reply name next may handles stands so_far sound = record {
   images = switched_to name next.meter.meter;
   makes = inl (record { may_ask = may; reply = reply; name = name; after = next.meter.meter; handles = handles; switches = refl; stands = stands });
-  names = names ∙ ap (λ (l : List Name). had ++ l) (sym (names_switched name next.meter.meter));
+  so_far = so_far;
   alone = λ others new h alive. handled_once answer heads old next.meter.meter from datagram reply name may handles others new h alive ∙ sym stands;
   sound = sound;
   size = handled_size old next.meter.meter datagram reply name handles;
 }
 
-pub dropped_next : (heads : List SocketAddr) (had : List Name) (old : Meter) (from : SocketAddr) (datagram : List ℕ) (next : Going)
+pub dropped_next : (heads : List SocketAddr) (had : List Image) (old : Meter) (from : SocketAddr) (datagram : List ℕ) (next : Going)
     → (MayAsk heads from → ⊥) → next.meter.meter ≡ old → stand_of next ≡ waits old
     → next.switched.items ≡ had ++ [] → IsSound next.meter → IsNext heads had (waits old) (came from datagram) next
-dropped_next heads had old from datagram next may_not same stands names sound = record {
+dropped_next heads had old from datagram next may_not same stands so_far sound = record {
   images = [];
   makes = inr (inl (record { may_not = may_not; none = refl; stands = stands }));
-  names = names;
+  so_far = so_far;
   alone = λ others new h alive. dropped_once heads old from datagram may_not others new h alive ∙ sym stands;
   sound = sound;
   size = ap (λ (m : Meter). m.capacity) same;
 }
 
-pub turned_next : OneTurn → (heads : List SocketAddr) (had : List Name) (old : Meter) (next : Going)
+pub turned_next : OneTurn → (heads : List SocketAddr) (had : List Image) (old : Meter) (next : Going)
     → status_of old.phase ≡ VerificationInitiated → Turn true old true next.meter.meter → stand_of next ≡ waits next.meter.meter
     → next.switched.items ≡ had ++ [] → IsSound next.meter → IsNext heads had (waits old) turned next
-turned_next turn heads had old next verifies takes stands names sound = record {
+turned_next turn heads had old next verifies takes stands so_far sound = record {
   images = [];
   makes = (verifies, inl (record { after = next.meter.meter; turn = takes; none = refl; stands = stands }));
-  names = names;
+  so_far = so_far;
   alone = λ others new h alive. turned_once turn old next.meter.meter takes others new h alive ∙ sym stands;
   sound = sound;
   size = turned_size old next.meter.meter takes;
 }
 
-pub paid_next : (heads : List SocketAddr) (had : List Name) (old : Meter) (there to : SocketAddr) (reply bytes : List ℕ) (next : Going)
+pub paid_next : (heads : List SocketAddr) (had : List Image) (old : Meter) (there to : SocketAddr) (reply bytes : List ℕ) (next : Going)
     → to ≡ there → bytes ≡ reply → next.meter.meter ≡ old → stand_of next ≡ waits old
     → next.switched.items ≡ had ++ [] → IsSound next.meter → IsNext heads had (owes there reply old) (sent to bytes) next
-paid_next heads had old there to reply bytes next address same kept stands names sound = record {
+paid_next heads had old there to reply bytes next address same kept stands so_far sound = record {
   images = [];
   makes = (address, same, refl, stands);
-  names = names;
+  so_far = so_far;
   alone = λ others new h alive. h.3 ∙ sym stands;
   sound = sound;
   size = ap (λ (m : Meter). m.capacity) kept;

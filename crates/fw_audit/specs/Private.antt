@@ -2,11 +2,10 @@
 use Rattle.std.specs.Prelude.{◌≡◌, ◌⊎◌, ◌++◌, ◌+◌, ◌<◌, ◌≤◌, ℕ, List, [], ◌∷◌, take, slice_get, length, All, Contains, Option, Some, None, Result, Ok, Err, IfSome, IsSomeAnd}
 use Rattle.std.specs.Global.{Vec}
 use Rattle.std.specs.declared.net.socket_addr.SocketAddr.{SocketAddr}
-use Rattle.fw_names.specs.Name.{Name}
 use Rattle.fw_image.specs.Meter.{Image, Meter, migrated, reopened}
 use Rattle.fw_stored.specs.Stored.{IsSound}
 use Rattle.fw_audit.specs.Log.{Item, started, came, sent, turned}
-use Rattle.fw_audit.specs.Stands.{Stand, ended, waits, owes, left_by, names_of, IsMeterLog, Makes, Leads}
+use Rattle.fw_audit.specs.Stands.{Stand, ended, waits, owes, left_by, IsMeterLog, Makes, Leads}
 use Rattle.fw_audit.specs.Departures.{IsDeparture, IsRefused, rule_of}
 use Rattle.fw_audit.specs.declared.error.AuditError.{AuditError}
 use Rattle.fw_audit.specs.declared.error.Departure.{Departure}
@@ -37,15 +36,15 @@ stand_in meter (Some owed) = owes owed.to owed.reply.items meter
 abbrev pub stand_of : Going → Stand
 stand_of going = stand_in going.meter.meter going.owed
 
--- The names of images that it switched to, those before and these.
-abbrev pub HasNames : List Name → List Image → List Name → Type 0
-HasNames had images names = names ≡ had ++ names_of images
+-- The images that it switched to, those before and these.
+abbrev pub HasImages : List Image → List Image → List Image → Type 0
+HasImages had images all = all ≡ had ++ images
 
 -- An item leads to here, and to nowhere else where the process is alive.
-pub record IsNext (heads : List SocketAddr) (had : List Name) (old : Stand) (item : Item) (next : Going) : Type 0 where
+pub record IsNext (heads : List SocketAddr) (had : List Image) (old : Stand) (item : Item) (next : Going) : Type 0 where
   pub images : List Image
   pub makes : Makes heads old item images (stand_of next)
-  pub names : HasNames had images next.switched.items
+  pub so_far : HasImages had images next.switched.items
   pub alone : (others : List Image) (new : Stand) → Makes heads old item others new → Alive new → new ≡ stand_of next
   pub sound : IsSound next.meter
   pub size : next.meter.meter.capacity ≡ (meter_in old).capacity
@@ -55,22 +54,22 @@ abbrev pub IsMisstep : List SocketAddr → Stand → Item → Misstep → Type 0
 IsMisstep heads old item (missteps.Departs rule) = (rule ≡ rule_of old item) × ((images : List Image) (new : Stand) → Makes heads old item images new → ⊥)
 IsMisstep heads old item missteps.OutOfMemory = (from : SocketAddr) × (datagram : List ℕ) × (item ≡ came from datagram)
 
-abbrev pub IsStepped : List SocketAddr → List Name → Stand → Item → Result Going Misstep → Type 0
+abbrev pub IsStepped : List SocketAddr → List Image → Stand → Item → Result Going Misstep → Type 0
 IsStepped heads had old item (Ok next) = IsNext heads had old item next
 IsStepped heads had old item (Err misstep) = IsMisstep heads old item misstep
 
 -- ---- a life: from a start to the next one
 
 -- Items lead to here, and to nowhere else where the process is alive.
-pub record IsPast (heads : List SocketAddr) (had : List Name) (old : Stand) (log : List Item) (next : Going) : Type 0 where
+pub record IsPast (heads : List SocketAddr) (had : List Image) (old : Stand) (log : List Item) (next : Going) : Type 0 where
   pub images : List Image
   pub leads : Leads heads old log images (stand_of next)
-  pub names : HasNames had images next.switched.items
+  pub so_far : HasImages had images next.switched.items
   pub alone : (others : List Image) (new : Stand) → Leads heads old log others new → Alive new → new ≡ stand_of next
   pub sound : IsSound next.meter
   pub size : next.meter.meter.capacity ≡ (meter_in old).capacity
 
-abbrev pub IsRan : List SocketAddr → List Name → Stand → List Item → Result Going Stop → Type 0
+abbrev pub IsRan : List SocketAddr → List Image → Stand → List Item → Result Going Stop → Type 0
 IsRan heads had old log (Ok next) = IsPast heads had old log next
 IsRan heads had old log (Err (stops.Departs d)) = IsDeparture heads old log d
 IsRan heads had old log (Err stops.OutOfMemory) = Unit {0}
@@ -87,34 +86,34 @@ abbrev pub EndsOpen : List Item → Type 0
 EndsOpen log = (front : List Item) × (item : Item) × (log ≡ front ++ item ∷ []) × IsOpen item
 
 -- A log from a store with a meter leaves this one.
-pub record IsLeft (heads : List SocketAddr) (had : List Name) (begin : Meter) (log : List Item) (end : Left) : Type 0 where
+pub record IsLeft (heads : List SocketAddr) (had : List Image) (begin : Meter) (log : List Item) (end : Left) : Type 0 where
   pub images : List Image
   pub stand : Stand
   pub leads : Leads heads (ended begin) log images stand
   pub left : end.meter.meter ≡ left_by stand
-  pub names : HasNames had images end.switched.items
+  pub so_far : HasImages had images end.switched.items
   pub rests : reopened end.meter.meter ≡ end.meter.meter
   pub size : end.meter.meter.capacity ≡ begin.capacity
 
 -- It leaves one of these, and no other.
-pub record AreLeft (heads : List SocketAddr) (had : List Name) (begin : Meter) (log : List Item) (first : Left) (second : Option Left) : Type 0 where
+pub record AreLeft (heads : List SocketAddr) (had : List Image) (begin : Meter) (log : List Item) (first : Left) (second : Option Left) : Type 0 where
   pub one : IsLeft heads had begin log first
   pub two : IfSome second (λ end. IsLeft heads had begin log end)
   pub all : (images : List Image) (stand : Stand) → Leads heads (ended begin) log images stand
       → (first.meter.meter ≡ left_by stand) ⊎ IsSomeAnd second (λ end. end.meter.meter ≡ left_by stand)
 
 -- A process that starts with this meter and then does this leaves one of these, and no other; or no process does it.
-abbrev pub IsOutlived : List SocketAddr → List Name → Meter → List Item → Result (Left × Option Left) Stop → Type 0
+abbrev pub IsOutlived : List SocketAddr → List Image → Meter → List Item → Result (Left × Option Left) Stop → Type 0
 IsOutlived heads had begin body (Ok both) = AreLeft heads had begin (started ∷ body) both.0 both.1
 IsOutlived heads had begin body (Err (stops.Departs d)) = IsDeparture heads (waits (migrated begin)) body d
 IsOutlived heads had begin body (Err stops.OutOfMemory) = Unit {0}
 
-abbrev pub IsLived : List SocketAddr → List Name → Meter → List Item → Result Left Stop → Type 0
+abbrev pub IsLived : List SocketAddr → List Image → Meter → List Item → Result Left Stop → Type 0
 IsLived heads had begin body (Ok left) = AreLeft heads had begin (started ∷ body) left None
 IsLived heads had begin body (Err (stops.Departs d)) = IsDeparture heads (waits (migrated begin)) body d
 IsLived heads had begin body (Err stops.OutOfMemory) = Unit {0}
 
-abbrev pub IsDied : List SocketAddr → List Name → Meter → List Item → Result (Left × Left) Stop → Type 0
+abbrev pub IsDied : List SocketAddr → List Image → Meter → List Item → Result (Left × Left) Stop → Type 0
 IsDied heads had begin body (Ok both) = AreLeft heads had begin (started ∷ body) both.0 (Some both.1)
 IsDied heads had begin body (Err (stops.Departs d)) = IsDeparture heads (waits (migrated begin)) body d
 IsDied heads had begin body (Err stops.OutOfMemory) = Unit {0}
@@ -201,9 +200,6 @@ IsFollowed heads begin log (Ok lefts) = AreAllLeft heads begin log lefts.items
 IsFollowed heads begin log (Err (stops.Departs d)) = IsDeparture heads (ended begin) log d
 IsFollowed heads begin log (Err stops.OutOfMemory) = Unit {0}
 
-abbrev pub IsAudited : List SocketAddr → Meter → List Item → Meter → List Name → Type 0
-IsAudited heads begin log end names = (images : List Image) × (names ≡ names_of images) × IsMeterLog heads begin log images end
-
-abbrev pub IsChosen : List SocketAddr → Meter → List Item → Meter → Result (Vec Name) AuditError → Type 0
-IsChosen heads begin log end (Ok names) = IsAudited heads begin log end names.items
+abbrev pub IsChosen : List SocketAddr → Meter → List Item → Meter → Result (Vec Image) AuditError → Type 0
+IsChosen heads begin log end (Ok images) = IsMeterLog heads begin log images.items end
 IsChosen heads begin log end (Err error) = IsRefused heads begin log end error

@@ -1,5 +1,5 @@
 -- Public vocabulary: what the process of a meter does, item by item of its log. It may be killed at any moment, and is started again.
-use Rattle.std.specs.Prelude.{◌≡◌, ◌⊎◌, ◌++◌, ℕ, IsTrue, true, List, [], ◌∷◌, map, Option, Some, None, Contains}
+use Rattle.std.specs.Prelude.{◌≡◌, ◌⊎◌, ◌++◌, ℕ, IsTrue, true, List, [], ◌∷◌, Option, Some, None, Contains}
 use Rattle.std.specs.declared.net.socket_addr.SocketAddr.{SocketAddr}
 use Rattle.fw_names.specs.Name.{Name}
 use Rattle.fw_image.specs.Meter.{Image, Meter, migrated, reopened, status_of}
@@ -115,6 +115,3 @@ pub record IsMeterLog (heads : List SocketAddr) (begin : Meter) (log : List Item
 -- It is the log of a meter, whatever that switched to, and whatever its store holds after it. What such a log begins with is one, too.
 abbrev pub IsLog : List SocketAddr → Meter → List Item → Type 0
 IsLog heads begin log = (images : List Image) × (end : Meter) × IsMeterLog heads begin log images end
-
-abbrev pub names_of : List Image → List Name
-names_of images = map (λ (image : Image). image.name) images

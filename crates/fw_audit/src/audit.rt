@@ -2,25 +2,25 @@
 
 ghost use Rattle.std.specs.Prelude.{◌≡◌, ◌≢◌, ◌≤◌, ◌⊎◌, false, All, IfErr, IfOk, IfSome, IsTrue, List, Some, length, slice_get};
 ghost use Rattle.std.specs.List.{AllWithin};
-ghost use Rattle.fw_image.specs.Meter.{Image, Meter, reopened};
+ghost use Rattle.fw_image.specs.Meter.{Meter, reopened};
 ghost use Rattle.fw_store.specs.Setup.{IsCapacity};
 ghost use Rattle.fw_audit.specs.Departures.{IsRefused};
 ghost use Rattle.fw_audit.specs.Log.{Item, item_of, log_of, started};
 ghost use Rattle.fw_audit.specs.Private.{Adds, AddsBoth, AreAllLeft, GathersOn, HasMeter, IsAllOutlived, IsChosen, IsFollowed, StartsAt};
-ghost use Rattle.fw_audit.specs.Stands.{IsMeterLog, names_of};
+ghost use Rattle.fw_audit.specs.Stands.{IsMeterLog};
 
 use crate::error::{AuditError, Departure, Rule};
 use crate::item::LogItem;
 use crate::life::{Left, Stop};
+use crate::switched::Switched;
 use fw_meter::MeterCore;
-use fw_names::ImageName;
 use fw_store::MemoryStore;
 use std::alloc::{AllocError, Global};
 use std::net::SocketAddr;
 
 /// Whether these items are the log of the meter that `begin` is, which just these addresses may ask (any, if there are none), and `end` is
 /// the meter that its store holds after the last of them. Both meters are as their stores hold them, as `MeterCore::open_kept` gives them. It
-/// returns the names of the images that the meter switched to, in order.
+/// returns the images that the meter switched to, in order, each with the bytes that ran.
 ///
 /// The process may have been killed at any moment, and started again. Where it was killed in handling a datagram or in a turn, its store
 /// may have what it held before or what it held after; each that the rest of the log explains is followed.
@@ -36,10 +36,9 @@ pub fn audit_meter(
     begin: MeterCore<MemoryStore>,
     items: &[LogItem<'_>],
     end: &MeterCore<MemoryStore>,
-) -> Result<Vec<ImageName>, AuditError>
+) -> Result<Vec<Switched>, AuditError>
     requires { IsCapacity begin.meter.capacity }
-    ensures is { IfOk result (λ names. (images : List Image) × (names.items ≡ names_of images)
-        × IsMeterLog heads.now (reopened begin.meter) (log_of items.now) images end.now.meter) }
+    ensures is { IfOk result (λ images. IsMeterLog heads.now (reopened begin.meter) (log_of items.now) images.items end.now.meter) }
     ensures refused { IfErr result (λ error. IsRefused heads.now (reopened begin.meter) (log_of items.now) end.now.meter error) }
 {
     match followed(alloc, heads, begin, items) {
@@ -49,15 +48,15 @@ pub fn audit_meter(
     }
 }
 
-/// The names of the images that the meter switched to which is the one of the store that was found.
-fn chosen(lefts: Vec<Left>, end: &MeterCore<MemoryStore>) -> Result<Vec<ImageName>, AuditError>
+/// The images that the meter switched to which is the one of the store that was found.
+fn chosen(lefts: Vec<Left>, end: &MeterCore<MemoryStore>) -> Result<Vec<Switched>, AuditError>
     ensures { (heads : List SocketAddr) (begin : Meter) (log : List Item) → AreAllLeft heads begin log lefts.items
         → IsChosen heads begin log end.now.meter result }
 {
     let mut rest = lefts;
     while let Some(left) = rest.pop() {
         if left.is(end) {
-            return Ok(left.into_names());
+            return Ok(left.into_images());
         }
     }
     Err(AuditError::OtherStore)

@@ -1,16 +1,17 @@
 //! A process of a meter that runs, as its log is read item by item.
 
-ghost use Rattle.std.specs.Prelude.{◌≡◌, ◌≢◌, ◌++◌, ◌↔◌, Contains, IfOk, IsTrue, List, option_to_list};
+ghost use Rattle.std.specs.Prelude.{◌≡◌, ◌≢◌, ◌++◌, ◌↔◌, Contains, IfOk, IsTrue, List};
 ghost use Rattle.std.specs.declared.net.socket_addr.SocketAddr.{SocketAddr};
 ghost use Rattle.fw_image.specs.Meter.{Meter};
 ghost use Rattle.fw_meter.specs.Handling.{reply_bytes};
 ghost use Rattle.fw_stored.specs.Stored.{IsSound};
 ghost use Rattle.fw_audit.specs.Log.{came, item_of, sent, started, turned};
-ghost use Rattle.fw_audit.specs.Stands.{MayAsk, owes, owing, waits};
+ghost use Rattle.fw_audit.specs.Stands.{MayAsk, owes, owing, switched_to, waits};
 ghost use Rattle.fw_audit.specs.Private.{IsStepped, stand_in, stand_of};
 
 use crate::error::Rule;
 use crate::item::LogItem;
+use crate::switched::Switched;
 use fw_image::TransferStatus;
 use fw_meter::{Handled, MeterCore};
 use fw_names::ImageName;
@@ -29,8 +30,8 @@ pub(crate) struct Owed {
 pub(crate) struct Going {
     meter: MeterCore<MemoryStore>,
     owed: Option<Owed>,
-    /// The names of the images that it switched to.
-    switched: Vec<ImageName>,
+    /// The images that it switched to.
+    switched: Vec<Switched>,
 }
 
 // Written out, so that letting go of it is one call in a proof.
@@ -54,11 +55,11 @@ pub(crate) enum Misstep {
 }
 
 impl Going {
-    /// A process that was just started with this meter. It had switched to images of these names before.
-    pub(crate) fn started(meter: MeterCore<MemoryStore>, switched: Vec<ImageName>) -> Going
+    /// A process that was just started with this meter. It had switched to these images before.
+    pub(crate) fn started(meter: MeterCore<MemoryStore>, switched: Vec<Switched>) -> Going
         ensures stand { stand_of result ≡ waits meter.meter }
         ensures meter { result.meter ≡ meter }
-        ensures names { result.switched.items ≡ switched.items }
+        ensures images { result.switched.items ≡ switched.items }
     {
         Going {
             meter,
@@ -67,10 +68,10 @@ impl Going {
         }
     }
 
-    /// Its meter, and the names.
-    pub(crate) fn into_parts(self) -> (MeterCore<MemoryStore>, Vec<ImageName>)
+    /// Its meter, and the images.
+    pub(crate) fn into_parts(self) -> (MeterCore<MemoryStore>, Vec<Switched>)
         ensures meter { result.0 ≡ self.meter }
-        ensures names { result.1.items ≡ self.switched.items }
+        ensures images { result.1.items ≡ self.switched.items }
     {
         let Going {
             meter,
@@ -112,7 +113,7 @@ fn wait(
     alloc: Global,
     heads: &[SocketAddr],
     meter: MeterCore<MemoryStore>,
-    switched: Vec<ImageName>,
+    switched: Vec<Switched>,
     item: &LogItem<'_>,
 ) -> Result<Going, Misstep>
     requires sound { IsSound meter }
@@ -130,7 +131,7 @@ fn wait(
 /// An item where a reply is owed.
 fn owe(
     meter: MeterCore<MemoryStore>,
-    switched: Vec<ImageName>,
+    switched: Vec<Switched>,
     owed: Owed,
     item: &LogItem<'_>,
 ) -> Result<Going, Misstep>
@@ -152,7 +153,7 @@ fn hear(
     alloc: Global,
     heads: &[SocketAddr],
     meter: MeterCore<MemoryStore>,
-    switched: Vec<ImageName>,
+    switched: Vec<Switched>,
     from: SocketAddr,
     datagram: &[u8],
 ) -> Result<Going, Misstep>
@@ -169,7 +170,7 @@ fn hear(
         return Err(Misstep::OutOfMemory);
     };
     let Handled { reply, activated } = handled;
-    let Ok(switched) = with_name(switched, activated) else {
+    let Ok(switched) = with_running(alloc, &mut meter, switched, activated) else {
         return Err(Misstep::OutOfMemory);
     };
     Ok(Going {
@@ -180,7 +181,7 @@ fn hear(
 }
 
 /// A turn is noted.
-fn turn(meter: MeterCore<MemoryStore>, switched: Vec<ImageName>) -> Result<Going, Misstep>
+fn turn(meter: MeterCore<MemoryStore>, switched: Vec<Switched>) -> Result<Going, Misstep>
     requires { IsSound meter }
     ensures { (heads : List SocketAddr) → IsStepped heads switched.items (waits meter.meter) turned result }
 {
@@ -197,7 +198,7 @@ fn turn(meter: MeterCore<MemoryStore>, switched: Vec<ImageName>) -> Result<Going
 /// A datagram is sent where this reply is owed.
 fn pay(
     meter: MeterCore<MemoryStore>,
-    switched: Vec<ImageName>,
+    switched: Vec<Switched>,
     owed: Owed,
     to: SocketAddr,
     bytes: &[u8],
@@ -243,16 +244,38 @@ fn owed_to(to: SocketAddr, reply: Option<Vec<u8>>) -> Option<Owed>
     }
 }
 
-/// The names, and one more, if there is one.
-fn with_name(names: Vec<ImageName>, name: Option<ImageName>) -> Result<Vec<ImageName>, AllocError>
-    ensures { IfOk result (λ all. all.items ≡ names.items ++ option_to_list name) }
+/// The images, and the one that runs, if the meter switched to it under this name.
+fn with_running(
+    alloc: Global,
+    meter: &mut MeterCore<MemoryStore>,
+    images: Vec<Switched>,
+    name: Option<ImageName>,
+) -> Result<Vec<Switched>, AllocError>
+    requires { IsSound meter.old }
+    ensures images { IfOk result (λ all. all.items ≡ images.items ++ switched_to name meter.old.meter) }
+    ensures meter { meter.new.meter ≡ meter.old.meter }
+    ensures sound { IsSound meter.new }
 {
-    let mut all = names;
-    match name {
-        Some(name) => {
-            all.push(name)?;
-            Ok(all)
-        }
-        None => Ok(all),
+    let Some(name) = name else {
+        return Ok(images);
+    };
+    let bytes = running(alloc, meter)?;
+    let mut all = images;
+    all.push(Switched::new(alloc, name, bytes)?)?;
+    Ok(all)
+}
+
+/// The bytes of the image that runs.
+fn running(alloc: Global, meter: &mut MeterCore<MemoryStore>) -> Result<Vec<u8>, AllocError>
+    requires { IsSound meter.old }
+    ensures bytes { IfOk result (λ bytes. bytes.items ≡ meter.old.meter.running.bytes) }
+    ensures meter { meter.new.meter ≡ meter.old.meter }
+    ensures sound { IsSound meter.new }
+{
+    let size = meter.view().active_size;
+    let mut bytes = vec![in alloc; 0; size as usize]?;
+    match meter.read_running(&mut bytes) {
+        Ok(()) => Ok(bytes),
+        Err(_) => unreachable!(),
     }
 }

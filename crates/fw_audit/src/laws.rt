@@ -1,6 +1,6 @@
 //! Laws of logs, over the definitions alone. A caller cites a law by calling it: nothing is done.
 
-ghost use Rattle.fw_audit.specs.Laws.{FrontsAreLogs, NoMoreReplies, OneReply};
+ghost use Rattle.fw_audit.specs.Laws.{FrontsAreLogs, NoMoreReplies, OneReply, RunsTheLast};
 
 /// What a log begins with is a log.
 pub fn fronts_are_logs()
@@ -17,4 +17,9 @@ pub fn one_reply()
 /// No reply is sent that isn't owed.
 pub fn no_more_replies()
     ensures { NoMoreReplies }
+{}
+
+/// A meter runs the last image that it switched to.
+pub fn runs_the_last()
+    ensures { RunsTheLast }
 {}

@@ -11,7 +11,9 @@ mod going;
 mod item;
 pub mod laws;
 mod life;
+mod switched;
 
 pub use audit::audit_meter;
 pub use error::{AuditError, Departure, Rule};
 pub use item::LogItem;
+pub use switched::Switched;

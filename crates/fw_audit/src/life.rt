@@ -11,8 +11,8 @@ ghost use Rattle.fw_audit.specs.Private.{EndsOpen, IsDied, IsLived, IsOpen, IsOu
 use crate::error::Departure;
 use crate::going::{Going, Misstep};
 use crate::item::LogItem;
+use crate::switched::{Switched, shared};
 use fw_meter::MeterCore;
-use fw_names::ImageName;
 use fw_store::MemoryStore;
 use fw_stored::{at_rest, started_again, started_twice};
 use std::alloc::Global;
@@ -21,8 +21,8 @@ use std::net::SocketAddr;
 /// A meter in its store, where its process doesn't run.
 pub(crate) struct Left {
     meter: MeterCore<MemoryStore>,
-    /// The names of the images that it switched to so far.
-    switched: Vec<ImageName>,
+    /// The images that it switched to so far.
+    switched: Vec<Switched>,
 }
 
 // Written out, so that letting go of it is one call in a proof.
@@ -45,10 +45,10 @@ pub(crate) enum Stop {
 }
 
 impl Left {
-    /// A meter as it lies in its store. It switched to images of these names.
-    pub(crate) fn new(meter: MeterCore<MemoryStore>, switched: Vec<ImageName>) -> Left
+    /// A meter as it lies in its store. It switched to these images.
+    pub(crate) fn new(meter: MeterCore<MemoryStore>, switched: Vec<Switched>) -> Left
         ensures meter { result.meter.meter ≡ reopened meter.meter }
-        ensures names { result.switched.items ≡ switched.items }
+        ensures images { result.switched.items ≡ switched.items }
         ensures rests { reopened result.meter.meter ≡ result.meter.meter }
     {
         Left {
@@ -60,7 +60,7 @@ impl Left {
     /// What a process leaves that is killed.
     fn of(going: Going) -> Left
         ensures left { result.meter.meter ≡ left_by (stand_of going) }
-        ensures names { result.switched.items ≡ going.switched.items }
+        ensures images { result.switched.items ≡ going.switched.items }
         ensures rests { reopened result.meter.meter ≡ result.meter.meter }
         ensures size { result.meter.meter.capacity ≡ going.meter.meter.capacity }
     {
@@ -83,8 +83,8 @@ impl Left {
         &self.meter
     }
 
-    /// The names.
-    pub(crate) fn into_names(self) -> Vec<ImageName>
+    /// The images.
+    pub(crate) fn into_images(self) -> Vec<Switched>
         ensures { result.items ≡ self.switched.items }
     {
         let Left { meter: _, switched } = self;
@@ -151,7 +151,7 @@ impl Left {
     {
         let last = items.len() - 1;
         let Left { meter, switched } = self;
-        let Ok(names) = Vec::from_slice(alloc, &switched) else {
+        let Ok(images) = shared(alloc, &switched) else {
             return Err(Stop::OutOfMemory);
         };
         let Ok((first, second)) = started_twice(alloc, meter) else {
@@ -162,7 +162,7 @@ impl Left {
             Ok(going) => going,
             Err(stop) => return Err(stop),
         };
-        let cut = Going::started(second, names);
+        let cut = Going::started(second, images);
         let before = match run(alloc, heads, cut, &items[..last]) {
             Ok(going) => going,
             Err(stop) => return Err(stop),

@@ -18,7 +18,7 @@ returns-then-is c heads begin log are =
     let looks = c.loop-left.invariant in
     let pops = c.pop.ensures.items ∙ ap (λ (o : Option Left). c.pop.new.self.items ++ option_to_list o) c.in-Some.is in
     let there = is_in c.args.lefts.items c.pop.new.self.items looks.done c.in-Some.left (popped c.args.lefts.items c.loop-left.rest.items c.pop.new.self.items looks.done c.in-Some.left looks.is pops) in
-    found_left heads begin c.args.end.now.meter log c.args.lefts.items c.in-Some.left c.into_names.result.items are there (c.is.ensures.some c.if-is.true) c.into_names.ensures
+    found_left heads begin c.args.end.now.meter log c.args.lefts.items c.in-Some.left c.into_images.result.items are there (c.is.ensures.some c.if-is.true) c.into_images.ensures
 
 pub returns : goal.returns
 returns c heads begin log are =

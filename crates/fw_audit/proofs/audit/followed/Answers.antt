@@ -22,7 +22,7 @@ returns-then-not-starts c =
 pub loop-at-init : goal.loop-at-init
 loop-at-init c =
     let left = c.new-begins.result in (
-      begins c.args.heads.now (reopened c.args.begin.meter) left c.in-Ok.lefts.items c.new-begins.ensures.meter (c.new-begins.ensures.names ∙ c.new.ensures.items) c.new-begins.ensures.rests
+      begins c.args.heads.now (reopened c.args.begin.meter) left c.in-Ok.lefts.items c.new-begins.ensures.meter (c.new-begins.ensures.images ∙ c.new.ensures.items) c.new-begins.ensures.rests
           (subst (λ (l : List Left). Adds l left c.in-Ok.lefts.items) c.new-2.ensures.items c.in-Ok.ensures),
       omega arith,
       c.starts.ensures.start c.if-not-starts.false,

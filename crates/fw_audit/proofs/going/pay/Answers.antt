@@ -14,5 +14,5 @@ returns c heads =
     let is = c.is_owed.ensures.0 c.if-not-is_owed.false in
     paid_next heads c.args.switched.items c.args.meter.meter owed.to c.args.to owed.reply.items c.args.bytes.now c.started.result
     is.0 is.1 (ap (λ (s : State). s.meter) c.started.ensures.meter) c.started.ensures.stand
-    (c.started.ensures.names ∙ sym (append-nil c.args.switched.items))
+    (c.started.ensures.images ∙ sym (append-nil c.args.switched.items))
     (subst IsSound (sym c.started.ensures.meter) c.requires)

@@ -16,5 +16,5 @@ returns-then-eq c heads =
     (search rules)
     (subst (λ (m : Meter). Turn true old.meter true m) (sym same) (turn_true old new c.requires c.turn.ensures))
     (c.started.ensures.stand ∙ ap (λ (m : Meter). waits m) (sym same))
-    (c.started.ensures.names ∙ sym (append-nil c.args.switched.items))
+    (c.started.ensures.images ∙ sym (append-nil c.args.switched.items))
     (subst IsSound (sym c.started.ensures.meter) (still_sound old new c.requires c.turn.ensures.follows))

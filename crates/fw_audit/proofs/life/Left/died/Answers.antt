@@ -53,8 +53,8 @@ returns c =
     c.started-cut.ensures.stand ∙ ap (λ (m : Meter). waits m) c.in-Ok-started_twice.ensures.second ∙ ap (λ (m : Meter). waits (migrated m)) c.requires.rests in
     died_of heads self.switched.items begin items last c.in-Ok-run.going c.in-Ok-run-2.going c.of-first.result c.of-second.result c.requires.open size
     (past_as heads c.started-whole.result.switched.items self.switched.items (stand_of c.started-whole.result) (waits (migrated begin)) (log_of items) c.in-Ok-run.going
-    c.started-whole.ensures.names stands c.in-Ok-run.ensures)
+    c.started-whole.ensures.images stands c.in-Ok-run.ensures)
     (past_as heads c.started-cut.result.switched.items self.switched.items (stand_of c.started-cut.result) (waits (migrated begin)) _ c.in-Ok-run-2.going
-    (c.started-cut.ensures.names ∙ c.in-Ok.ensures.items ∙ c.deref.ensures.value) others c.in-Ok-run-2.ensures)
-    c.of-first.ensures.left c.of-first.ensures.names c.of-first.ensures.rests c.of-first.ensures.size
-    c.of-second.ensures.left c.of-second.ensures.names c.of-second.ensures.rests c.of-second.ensures.size
+    (c.started-cut.ensures.images ∙ c.in-Ok.ensures ∙ c.deref.ensures.value) others c.in-Ok-run-2.ensures)
+    c.of-first.ensures.left c.of-first.ensures.images c.of-first.ensures.rests c.of-first.ensures.size
+    c.of-second.ensures.left c.of-second.ensures.images c.of-second.ensures.rests c.of-second.ensures.size

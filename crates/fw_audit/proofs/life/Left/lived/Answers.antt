@@ -19,9 +19,9 @@ returns-in-Ok c =
     let stands : stand_of start ≡ waits (migrated self.meter.meter) =
     c.started-start.ensures.stand ∙ ap (λ (m : Meter). waits m) c.started_again.ensures.meter ∙ ap (λ (m : Meter). waits (migrated m)) c.requires.rests in
     lived c.args.heads.now self.switched.items self.meter.meter (log_of items) c.in-Ok.going c.of.result
-    (past_as c.args.heads.now start.switched.items self.switched.items (stand_of start) (waits (migrated self.meter.meter)) (log_of items) c.in-Ok.going c.started-start.ensures.names stands c.in-Ok.ensures)
+    (past_as c.args.heads.now start.switched.items self.switched.items (stand_of start) (waits (migrated self.meter.meter)) (log_of items) c.in-Ok.going c.started-start.ensures.images stands c.in-Ok.ensures)
     (are_going items c.requires.going) c.requires.closed
-    c.of.ensures.left c.of.ensures.names c.of.ensures.rests c.of.ensures.size
+    c.of.ensures.left c.of.ensures.images c.of.ensures.rests c.of.ensures.size
 
 pub returns-in-Err : goal.returns-in-Err
 returns-in-Err c =

@@ -1,0 +1,3 @@
+mod Reading
+mod Opening
+mod Marks

@@ -1,0 +1,83 @@
+//! Why files are none of a meter.
+
+use fw_audit::Rule;
+use fw_capture::CaptureError;
+use std::fmt;
+use thiserror::Error;
+
+/// A record of a capture.
+#[derive(Clone, Copy, Debug)]
+pub struct Mark {
+    /// Its number, from 0 on.
+    pub number: usize,
+    /// Where it begins in the file.
+    pub offset: usize,
+}
+
+/// Why a record is none of the meter whose log is read.
+#[derive(Clone, Copy, Debug)]
+pub enum Stray {
+    /// It is neither a UDP datagram nor a note.
+    NoEntry,
+    /// Its datagram neither came to the address of the meter nor was sent from there.
+    Elsewhere,
+    /// Its datagram goes from the address of the meter to that same address: whether it came or was sent isn't known.
+    ToItself,
+}
+
+/// Why a capture is no log of a meter.
+#[derive(Clone, Copy, Debug, Error)]
+pub enum LogError {
+    /// The capture has this fault first. The records before it are the meter's.
+    Fault(CaptureError),
+    /// This record is none of the meter's, and those before it are.
+    Stray(Mark, Stray),
+    /// Memory was refused.
+    OutOfMemory,
+}
+
+impl fmt::Display for LogError {
+    fn fmt<W: fmt::Write>(&self, f: &mut fmt::Formatter<W>) -> fmt::Result {
+        fmt::Debug::fmt(self, f)
+    }
+}
+
+/// What an audit found wrong, or why it found nothing out.
+#[derive(Clone, Copy, Debug, Error)]
+pub enum EvidenceError {
+    /// The capture is no log of a meter at its address.
+    NoLog(LogError),
+    /// The log departs in this record from what the meter does, since that breaks this rule.
+    Departs(Mark, Rule),
+    /// The log is one of the meter, and its store holds another meter after it, whatever kills left.
+    OtherStore,
+    /// Memory was refused. Nothing is said of the meter.
+    OutOfMemory,
+}
+
+impl fmt::Display for EvidenceError {
+    fn fmt<W: fmt::Write>(&self, f: &mut fmt::Formatter<W>) -> fmt::Result {
+        fmt::Debug::fmt(self, f)
+    }
+}
+
+/// Why the bytes of a store hold no meter. Of several causes the first one here is returned.
+#[derive(Clone, Copy, Debug, Error)]
+pub enum StoreRefusal {
+    /// The bytes beside the store are those of no undo file.
+    ForeignUndo,
+    /// They are no store.
+    BadFile,
+    /// The header is none that a store can have.
+    BadHeader,
+    /// The image that runs, or the one that was verified, has not the digest of its name.
+    BadImage,
+    /// Memory was refused.
+    OutOfMemory,
+}
+
+impl fmt::Display for StoreRefusal {
+    fn fmt<W: fmt::Write>(&self, f: &mut fmt::Formatter<W>) -> fmt::Result {
+        fmt::Debug::fmt(self, f)
+    }
+}

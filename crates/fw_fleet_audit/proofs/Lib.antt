@@ -1,0 +1,6 @@
+mod Lists
+mod Switching
+mod Passing
+mod Departing
+mod Biting
+mod Headline

@@ -1,0 +1,6 @@
+-- Public vocabulary: the words of public clauses, for callers and readers.
+pub mod Switches
+pub mod Rows
+pub mod Laws
+-- For private members alone: no public clause cites it.
+pub mod Private
