@@ -10,6 +10,7 @@ use crate::refusal;
 use crate::refusal::Refusal;
 use fw_cli::{
     CancelOptions, GiveUpOptions, HeadOptions, InputCause, MeterFault, MeterOptions, StatusOptions,
+    SurveyOptions,
 };
 use fw_disk::{Because, Name, Reason};
 use fw_faults::Fault;
@@ -351,6 +352,26 @@ impl<'a> BookPlaces<'a> {
     /// Those of these options.
     pub(crate) fn of_status(options: &StatusOptions<'a>) -> BookPlaces<'a> {
         BookPlaces::of_book(options.book, None)
+    }
+
+    /// Those of these options, which have no book: no fault of a survey is of one.
+    pub(crate) fn of_survey(options: &SurveyOptions<'a>) -> BookPlaces<'a> {
+        let image = match options.offer {
+            Some(offer) => Some(offer.image),
+            None => None,
+        };
+        BookPlaces {
+            book: options.meters,
+            listen: Some(options.listen),
+            meters: Some(options.meters),
+            image,
+            opened: None,
+            cancel: None,
+            campaign: None,
+            max_failed: None,
+            capture: None,
+            keys: None,
+        }
     }
 
     /// Those of a command over this book alone.

@@ -33,10 +33,10 @@ use clap::error::ErrorKind;
 use fw_cli::{
     AnswerOptions, CancelFault, CancelOptions, Ended, GaveUp, GiveUpOptions, HeadOptions, HeadTold,
     InputCause, KeysFailure, KeysOptions, LedOut, LiveOptions, MeterFault, MeterOptions,
-    NameOptions, RehearseOptions, ReplayOptions, StatusOptions, StoredOptions, TraceKeys,
-    head_cause, keys_cause, run_answer, run_answer_stored, run_cancel, run_give_up, run_head,
-    run_keys, run_live, run_meter, run_name, run_rehearse, run_replay, run_status, run_trace,
-    trace_links,
+    NameOptions, RehearseOptions, ReplayOptions, StatusOptions, StoredOptions, SurveyOptions,
+    TraceKeys, head_cause, keys_cause, run_answer, run_answer_stored, run_cancel, run_give_up,
+    run_head, run_keys, run_live, run_meter, run_name, run_rehearse, run_replay, run_status,
+    run_survey, run_trace, survey_cause, trace_links,
 };
 use fw_disk::{Because, Cause, Name, Reason};
 use fw_faults::Fault;
@@ -201,6 +201,7 @@ fn run_command<
         Invocation::GiveUp(options) => give_up(rt, &options),
         Invocation::Keys(options) => keys(rt, &options),
         Invocation::Status(options) => status(rt, options),
+        Invocation::Survey(options) => survey(rt, &options),
     }
 }
 
@@ -512,6 +513,22 @@ fn status<'a, R: AllocGlobal + Files<File = File> + Print + Eprint>(
     match run_status(rt, rt.alloc(), writer, &options) {
         Ok(()) => Ok(()),
         Err(because) => Err(Ending::Book(because, BookPlaces::of_status(&options), None)),
+    }
+}
+
+/// `survey`.
+fn survey<'a, R: AllocGlobal + Files<File = File> + Clock + Print + Net + Wait>(
+    rt: &R,
+    options: &SurveyOptions<'a>,
+) -> Result<(), Ending<'a>> {
+    let writer = &mut io::writer(rt);
+    match run_survey(rt, rt.alloc(), writer, options) {
+        Ok(()) => Ok(()),
+        Err(fault) => {
+            let input = survey_cause(rt, rt.alloc(), options, fault);
+            let places = BookPlaces::of_survey(options);
+            Err(Ending::Book(Because::from(fault), places, input))
+        }
     }
 }
 

@@ -14,6 +14,7 @@ mod rehearse;
 mod replay;
 mod serials;
 mod status;
+mod survey;
 mod trace;
 
 use clap::error::ErrorKind;
@@ -21,6 +22,7 @@ use clap::{ArgMatches, Command, Error};
 use fw_cli::{
     AnswerOptions, CancelOptions, GiveUpOptions, HeadOptions, KeysOptions, LiveOptions,
     MeterOptions, NameOptions, RehearseOptions, ReplayOptions, StatusOptions, StoredOptions,
+    SurveyOptions,
 };
 use fw_host::SealingOptions;
 use fw_sealport::Order;
@@ -43,6 +45,7 @@ pub(crate) enum Invocation<'a> {
     GiveUp(GiveUpOptions<'a>),
     Keys(KeysOptions<'a>),
     Status(StatusOptions<'a>),
+    Survey(SurveyOptions<'a>),
     Trace(TraceOptions<'a>),
 }
 
@@ -173,6 +176,7 @@ fn found<'a>(
         Some(("cancel", given)) => cancel::invoked(alloc, given),
         Some(("give-up", given)) => give_up::invoked(alloc, given),
         Some(("keys", given)) => keys::invoked(given),
+        Some(("survey", given)) => survey::invoked(given),
         Some((name, given)) => Ok(invoked(name, given)),
         None => Ok(None),
     }
@@ -214,6 +218,7 @@ fn dlmsfw<'a>(alloc: Global) -> Result<Command<'a>, AllocError> {
     let program = with(program, give_up::command(alloc))?;
     let program = with(program, keys::command(alloc))?;
     let program = with(program, status::command(alloc))?;
+    let program = with(program, survey::command(alloc))?;
     with(program, trace::command(alloc))
 }
 

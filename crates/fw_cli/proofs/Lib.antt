@@ -19,3 +19,4 @@ pub mod Traced
 pub mod Dissected
 pub mod Rollouts
 pub mod Inputs
+pub mod Surveyed

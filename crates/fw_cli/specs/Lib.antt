@@ -12,6 +12,7 @@ pub mod Scripts
 pub mod Heads
 pub mod InputCauses
 pub mod Beginning
+pub mod Surveying
 pub mod Cancelling
 pub mod GivingUp
 pub mod Keying

@@ -98,7 +98,7 @@ pub fn keys_cause<F: Files<File = File> + Net>(
 }
 
 /// Why this line of the file is none of a list for a head end at this address.
-fn cause_in_file<F: Files<File = File> + Net>(
+pub(crate) fn cause_in_file<F: Files<File = File> + Net>(
     rt: &F,
     alloc: Global,
     path: &str,

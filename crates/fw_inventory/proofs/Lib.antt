@@ -1,0 +1,2 @@
+pub mod Floatless
+pub mod Told
