@@ -1,10 +1,8 @@
 //! Files of stores with a header of either version, cut at each length, and with each byte of what a file begins with turned to each
 //! value: such a file is refused by a name, or the meter is opened as its header says, which is one of version 2 then.
 
-use crate::hostile::disk::Disk;
-use crate::hostile::support::{
-    Count, Outcome, datagrams, expect_tried, failed, note, opened, replies,
-};
+use crate::disk::Disk;
+use crate::support::{Count, Outcome, datagrams, expect_tried, failed, note, opened, replies};
 use fw_image::{MeterView, OpenError};
 use fw_meter::MeterCore;
 use fw_names::ImageName;

@@ -1,8 +1,8 @@
 //! Stores on disks that are full after N bytes, and on disks that are only read, in each operation of a campaign. The operation answers
 //! code 1, hardware-fault, and the meter is as before it, except for bytes of the block that is being written; or the operation is done.
 
-use crate::hostile::disk::{Disk, Room};
-use crate::hostile::support::{self, datagrams, expect_tried, failed, opened};
+use crate::disk::{Disk, Room};
+use crate::support::{self, datagrams, expect_tried, failed, opened};
 use fw_image::OpenError;
 use fw_meter::MeterCore;
 use fw_store::{DeviceStore, FileStoreError};
