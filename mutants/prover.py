@@ -16,7 +16,7 @@ LOST = re.compile(r"(\./)?proofs/.*(has no field|is not in scope|has no `|was no
 # A text that the prover cannot read, where an edit that only makes a statement false reads well.
 UNREAD = re.compile(r"is not in scope|has no field|is no name|operand is missing|expected the end|cannot continue")
 
-Function = collections.namedtuple("Function", "file start body end name path unit")
+Function = collections.namedtuple("Function", "file start body end name path unit of_trait")
 Result = collections.namedtuple("Result", "kind text")
 # What a check says: of all edits at once, of places, first of all, and of functions, by their paths.
 Check = collections.namedtuple("Check", "kind told first functions", defaults=(None,))
@@ -35,7 +35,8 @@ def functions_of(texts):
 
 def functions_in(file, text, homes):
     """The functions of a file that rt fmt laid out, each with its lines, where its body begins, how it is called for
-    short, its path as the prover prints it, and the unit in which it is proved: itself, or the cycle of calls that it is in."""
+    short, its path as the prover prints it, the unit in which it is proved: itself, or the cycle of calls that it is in,
+    and whether it is a method of a trait."""
     lines, found, block, cycle, module = text.split("\n"), [], "", None, module_of(file)
     for at, line in enumerate(lines):
         if re.match(r"(?:unsafe )?(?:impl|(?:pub )?trait)\b", line):
@@ -51,7 +52,8 @@ def functions_in(file, text, homes):
             owner, above = owners_of(block, module, homes) if head[1] and block else ("", module)
             name, path = f"{owner}::{head[2]}" if owner else head[2], f"{above}::{head[2]}".removeprefix("::")
             unit = f"cycle {cycle[1]}" if cycle else f"{file}:{at}"
-            found.append(Function(file, attributes_above(lines, at), *lasts, name, path, unit))
+            of_trait = bool(head[1] and re.match(r"(?:pub )?trait\b|.*\bfor (?!<)", block.partition(" where ")[0]))
+            found.append(Function(file, attributes_above(lines, at), *lasts, name, path, unit, of_trait))
     return found
 
 
