@@ -360,10 +360,14 @@ local function heuristic(buffer, pinfo, tree)
   return true
 end
 
--- A note of a process that wrote the capture: the words after "dlmsfw ". The number of strangers stands behind them, in eight bytes.
+-- A note of a process that wrote the capture: the words after "dlmsfw ". The port of the meter that took a turn stands behind them in two
+-- bytes, and the number of strangers in eight.
 function note.dissector(buffer, pinfo, tree)
   local text = buffer():string()
   local words = text == "dlmsfw start" and "start" or (text == "dlmsfw turn" and "turn" or nil)
+  if buffer:len() == 14 and buffer(0, 12):string() == "dlmsfw turn " then
+    words = "turn " .. tostring(buffer(12, 2):uint())
+  end
   if buffer:len() == 25 and buffer(0, 17):string() == "dlmsfw strangers " then
     words = "strangers " .. tostring(buffer(17, 8):uint64())
   end

@@ -1,7 +1,5 @@
 """What the steps of runs/sessions share: where a step is made, and what hostile/ has to make it with."""
 
-import importlib.machinery
-import importlib.util
 import pathlib
 import re
 import select
@@ -15,7 +13,7 @@ ROOT = pathlib.Path(__file__).resolve().parents[2]
 HOSTILE = ROOT / "hostile"
 sys.path[:0] = [str(HOSTILE), str(ROOT / "bench")]
 
-from ends import Failed, Head, Meter, preloaded, wants  # noqa: E402, F401
+from ends import Failed, Head, Meter, preloaded, script, wants  # noqa: E402, F401
 
 HOST = "127.0.0.1"
 # How long it is looked whether something comes that must not, in seconds; and how long it may take that something comes which must.
@@ -58,15 +56,6 @@ class Place:
         made = subprocess.run([self.program, *map(str, words)], input=text, capture_output=True, text=True, timeout=LONGEST,
                               cwd=self.folder, check=False, **how)
         return made.returncode, made.stdout, made.stderr.splitlines()
-
-
-def script(name):
-    """A script of hostile/ as a module."""
-    loader = importlib.machinery.SourceFileLoader(name, str(HOSTILE / name))
-    module = importlib.util.module_from_spec(importlib.util.spec_from_loader(name, loader))
-    sys.modules[name] = module
-    loader.exec_module(module)
-    return module
 
 
 def wait_for(holds, why, seconds=PATIENCE):

@@ -104,4 +104,23 @@ def files_of_others_stay(place):
             path.unlink()
 
 
-STEPS = [events_are_told_with_the_lines, metrics_have_the_rows, files_of_others_stay]
+# To be seen: a file of events, or of metrics, that is made or begun though the other is refused.
+def both_files_are_judged_first(place):
+    """If the file of events is refused, or that of metrics, neither is made."""
+    (place.folder / "meters.csv").write_text("1,127.0.0.1:4059\n")
+    (place.folder / "other").write_text(OTHERS[0])
+    before = sorted(place.folder.iterdir())
+    words = ["head", "--head", "7", "--book", "head.book", "--new", "--meters", "meters.csv", "--listen", "127.0.0.1:0"]
+    missing, others = "there is no such file or folder", "it is another program's file"
+    for events, metrics, want in (
+        ("events", "none/metrics", f"--metrics none/metrics: {missing}"),
+        ("events", "other", f"--metrics other: {others}"),
+        ("none/events", "metrics", f"--events none/events: {missing}"),
+        ("other", "metrics", f"--events other: {others}"),
+    ):
+        got = place.run(*words, "--events", events, "--metrics", metrics)
+        wants(got == (1, "", ["dlmsfw: Output", want]), f"with {events} and {metrics} it ends with {got}")
+        wants(sorted(place.folder.iterdir()) == before, f"with {events} and {metrics} there are {sorted(place.folder.iterdir())}")
+
+
+STEPS = [events_are_told_with_the_lines, metrics_have_the_rows, files_of_others_stay, both_files_are_judged_first]

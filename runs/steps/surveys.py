@@ -3,6 +3,7 @@
 import csv
 import io
 import json
+import re
 import subprocess
 import time
 
@@ -18,6 +19,8 @@ QUESTIONS = [HEADER + rest for rest in (
     "c001c3" "0012" "00002c0000ff" "06" "00",
 )]
 HEADINGS = "meter,state,head,campaign,release,digest,status,enabled,block_size,round_trip_us,offer"
+# The headings of the table.
+TABLE = "meter state  head camp release digest   stat on  block trip us offer"
 # The SHA-256 of `abc` (FIPS 180-4, its example).
 DIGEST = "ba7816bf8f01cfea414140de5dae2223b00361a396177a9cb410ff61f20015ad"
 # The name of the image `abc` as campaign 7 3 offers it as release 5, and as a meter is made with it.
@@ -51,13 +54,19 @@ def survey(place, *words):
     return out
 
 
+def columns(line):
+    """Where the cells of a line begin, of which that of the round trip has two words in the headings."""
+    return [word.start() for word in re.finditer(r"trip us|\S+", line)]
+
+
 def rows(text):
     """The lines behind the headings, by the meter."""
     wants(text.startswith(f"{HEADINGS}\n"), f"it prints {text!r}")
     return {int(row["meter"]): row for row in csv.DictReader(io.StringIO(text))}
 
 
-# To be seen: a meter that is told for another, a silent one that isn't told as silent, and a meter that was changed.
+# To be seen: a meter that is told for another, a silent one that isn't told as silent, a cell that stands beside its heading, and a meter that
+# was changed.
 def survey_tells_what_meters_run(place):
     """Three meters of ours and one that nobody is: the first are told as heard, in all forms, and the last as silent."""
     members, nobody = Members(place.folder, 3), bound()
@@ -75,10 +84,14 @@ def survey_tells_what_meters_run(place):
         wants([meter["state"] for meter in meters] == ["heard", "heard", "heard", "silent"], f"the states are {meters}")
         image = {"campaign": 0, "digest": DIGEST, "head": 0, "release": 0}
         wants([meter["image"] for meter in meters] == [image, image, image, None], f"the images are {meters}")
-        lines = survey(place).splitlines()
-        wants(lines[0].split() == ["meter", "state", "head", "end", "campaign", "release", "status", "enabled", "block", "size", "trip", "(us)", "offer"],
-              f"the headings of the table are {lines}")
-        wants([line.split()[:2] for line in lines[1:]] == [["1", "heard"], ["2", "heard"], ["3", "heard"], ["4", "silent"]], f"the table is {lines}")
+        heading, *lines = survey(place).splitlines()
+        wants(heading == TABLE, f"the headings of the table are {heading!r}")
+        *heard, silent = [line.split() for line in lines]
+        for number, cells in enumerate(heard, 1):
+            wants(cells[:9] == [str(number), "heard", "0", "0", "0", DIGEST[:8], "0", "no", "1024"], f"meter {number} is {cells}")
+            wants(cells[9].isdigit() and cells[10:] == ["-"], f"meter {number} is {cells}")
+        wants(silent == ["4", "silent", *["-"] * 9], f"the silent meter is {silent}")
+        wants(all(columns(line) == columns(TABLE) and line == line.rstrip() for line in lines), f"cells stand beside their headings in {lines}")
         wants(before == [members.file(number) for number in (1, 2, 3)], "a meter was changed")
 
 
@@ -155,8 +168,8 @@ def survey_refuses(place):
         ("none.csv", free, [], ["ListFault", f"--meters none.csv: {missing}"]),
         ("twice.csv", free, [], ["BadList 2", "--meters twice.csv: line 1 has the same meter"]),
         ("meters.csv", free, ["--image", "none"], ["ImageFault", f"--image none: {missing}"]),
-        ("meters.csv", free, ["--image", "empty"], ["EmptyImage"]),
-        ("meters.csv", free, ["--image", "long"], ["ImageTooLong"]),
+        ("meters.csv", free, ["--image", "empty"], ["EmptyImage", "--image empty"]),
+        ("meters.csv", free, ["--image", "long"], ["ImageTooLong", "--image long"]),
         ("meters.csv", at, [], ["Socket", f"--listen {at}: it is in use"]),
     ):
         got = place.run("survey", "--meters", meters, "--listen", listen, *words)

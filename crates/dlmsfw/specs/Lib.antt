@@ -1,4 +1,5 @@
 pub mod Status
+pub mod AuditPlaces
 pub mod KeyPlaces
 pub mod Places
 pub mod Refusals

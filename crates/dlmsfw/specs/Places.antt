@@ -6,7 +6,7 @@ use Rattle.fw_disk.specs.declared.reason.Reason.{Reason}
 use Rattle.fw_disk.specs.declared.name.Name.{Name}
 use Rattle.fw_disk.specs.declared.name.Name.TheVariants.{Main}
 use Rattle.fw_faults.specs.declared.fault.Fault.{Fault}
-use Rattle.fw_faults.specs.declared.fault.Fault.TheVariants.{StoreFault, Device, BadFile, BadHeader, BadImage, FactoryFault, Socket, NoBook, BookExists, Locked, BookFault, BadBook, BadRecord, ForeignHead, Full, ListFault, BadList, ImageFault, BadSetup, OpenRefused, CancelRefused, TooManyFailed, CaptureFault, ForeignCapture, KeysFault, KeysReadable, BadKeys, NoKey, NoCounter, CounterExists, CounterLocked, CounterFault, CounterSpent}
+use Rattle.fw_faults.specs.declared.fault.Fault.TheVariants.{StoreFault, Device, BadFile, BadHeader, BadImage, FactoryFault, Socket, NoBook, BookExists, Locked, BookFault, BadBook, BadRecord, ForeignHead, Full, ListFault, BadList, ImageFault, EmptyImage, ImageTooLong, BadSetup, OpenRefused, CancelRefused, TooManyFailed, CaptureFault, ForeignCapture, KeysFault, KeysReadable, BadKeys, NoKey, NoCounter, CounterExists, CounterLocked, CounterFault, CounterSpent}
 use Rattle.fw_cli.specs.declared.input_cause.InputCause.{InputCause}
 use Rattle.fw_cli.specs.declared.meter.MeterFault.{MeterFault}
 use Rattle.dlmsfw.specs.declared.cause.BookPlaces.{BookPlaces}
@@ -94,6 +94,8 @@ book_place_in Socket name places = option_map HeadListen places.listen
 book_place_in ListFault name places = option_map Meters places.meters
 book_place_in (BadList line) name places = option_map Meters places.meters
 book_place_in ImageFault name places = option_map Image places.image
+book_place_in EmptyImage name places = option_map Image places.image
+book_place_in ImageTooLong name places = option_map Image places.image
 book_place_in BadSetup name places = option_map Open places.opened
 book_place_in (OpenRefused refusal) name places = option_map Open places.opened
 book_place_in (CancelRefused refusal) name places = cancelled_place (option_map Cancel places.cancel) (option_map Campaign places.campaign)

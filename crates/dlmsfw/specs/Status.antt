@@ -1,11 +1,11 @@
--- The exit statuses of the program: 0 if its work is done, 1 at a fault or a refused event, 2 at a wrong command line, 4 where a row failed,
--- 5 where rows aren't in the list, or a meter that is named has none.
+-- The exit statuses of the program: 0 if its work is done, 1 at a fault, a refused event or files that don't fit, 2 at a wrong command line,
+-- 4 where a row failed, 5 where rows aren't in the list, or a meter that is named has none.
 use Rattle.std.specs.Prelude.{◌≡◌, ◌≢◌, ℕ, ◌⊎◌, Result, Ok, Err}
 use Rattle.clap.specs.declared.error.kind.ErrorKind.{ErrorKind}
 use Rattle.clap.specs.declared.error.kind.ErrorKind.TheVariants.{DisplayHelp, DisplayVersion, OutOfMemory}
 use Rattle.clap.specs.Values.{kind_of}
 use Rattle.dlmsfw.specs.declared.Ending.{Ending}
-use Rattle.dlmsfw.specs.declared.Ending.TheVariants.{Fault, Capture, Trace, Answer, Meter, Book, Told, Keys, Refused, RowsFailed, RowsUnlisted, RowsLacking, CommandLine, NoText}
+use Rattle.dlmsfw.specs.declared.Ending.TheVariants.{Fault, Capture, Trace, Answer, Meter, Book, Told, Keys, Audit, Refused, Departs, RowsFailed, RowsUnlisted, RowsLacking, CommandLine, NoText}
 
 -- the text that was asked for
 abbrev pub IsHelp : ErrorKind → Type 0
@@ -27,7 +27,9 @@ EndsWith (Meter ended places) status = status ≡ 1
 EndsWith (Book because places input) status = status ≡ 1
 EndsWith (Told untold) status = status ≡ 1
 EndsWith (Keys failure places input) status = status ≡ 1
+EndsWith (Audit ended list) status = status ≡ 1
 EndsWith Refused status = status ≡ 1
+EndsWith Departs status = status ≡ 1
 EndsWith RowsFailed status = status ≡ 4
 EndsWith RowsUnlisted status = status ≡ 5
 EndsWith RowsLacking status = status ≡ 5

@@ -462,7 +462,9 @@ pub(crate) fn book_place_of<'a>(
         })),
         Fault::Socket => Some(BookPlace::HeadListen(places.listen?)),
         Fault::ListFault | Fault::BadList(_) => Some(BookPlace::Meters(places.meters?)),
-        Fault::ImageFault => Some(BookPlace::Image(places.image?)),
+        Fault::ImageFault | Fault::EmptyImage | Fault::ImageTooLong => {
+            Some(BookPlace::Image(places.image?))
+        }
         Fault::BadSetup | Fault::OpenRefused(_) => Some(BookPlace::Open(places.opened?)),
         Fault::CancelRefused(_) => match places.cancel {
             Some(serials) => Some(BookPlace::Cancel(serials)),

@@ -6,6 +6,7 @@ ghost use Rattle.std.specs.Io.KnownBytes.{Keeps};
 ghost use Rattle.std.specs.Option.{option_map};
 ghost use Rattle.std.specs.Process.{exit_status};
 ghost use Rattle.clap.specs.Values.{kind_of};
+ghost use Rattle.fw_auditor.specs.Fitting.{AllFit};
 ghost use Rattle.fw_cli.specs.Beginning.{HasLedOut};
 ghost use Rattle.fw_cli.specs.Cancelling.{HasCancelled};
 ghost use Rattle.fw_cli.specs.GivingUp.{HasGivenUp};
@@ -19,6 +20,7 @@ ghost use Rattle.dlmsfw.specs.Status.{EndsAs, EndsParse, EndsWith};
 ghost use Rattle.dlmsfw.specs.TracePlaces.{trace_fault_of};
 ghost use Rattle.dlmsfw.specs.declared.Ending.{Ending};
 
+mod audit_places;
 mod cause;
 mod key_places;
 mod options;
@@ -30,6 +32,7 @@ mod trace_places;
 
 use cause::{BookPlaces, MeterPlaces, NamedFile, Place};
 use clap::error::ErrorKind;
+use fw_auditor::{AuditEnd, AuditFault, AuditOptions, run_audit};
 use fw_cli::{
     AnswerOptions, CancelFault, CancelOptions, Ended, GaveUp, GiveUpOptions, HeadOptions, HeadTold,
     InputCause, KeysFailure, KeysOptions, LedOut, LiveOptions, MeterFault, MeterOptions,
@@ -58,7 +61,7 @@ use std::rt::{Clock, Env, Files};
 use std::sync::Wait;
 use std::thread::Threads;
 use std::{env, io};
-use told_files::{Untold, begin_metrics, metrics_at, opened_events};
+use told_files::{Untold, begin_told, metrics_at};
 use trace_places::{TraceFault, TracePlaces};
 
 /// The microseconds of a second.
@@ -101,8 +104,12 @@ enum Ending<'a> {
     Told(Untold<'a>),
     /// A fault of the making of keys from this list into this folder, and its cause, if the list shows it.
     Keys(KeysFailure, KeyPlaces<'a>, Option<InputCause>),
+    /// A fault of the audit of what this list has.
+    Audit(AuditFault, &'a str),
     /// An event of a script was refused, and the command has reported it.
     Refused,
+    /// What is audited doesn't fit, and the command has reported it.
+    Departs,
     /// A row that a head end led failed, and the command has reported it.
     RowsFailed,
     /// Rows are live whose meters aren't in the list of a head end, and the command has told them.
@@ -202,6 +209,7 @@ fn run_command<
         Invocation::Keys(options) => keys(rt, &options),
         Invocation::Status(options) => status(rt, options),
         Invocation::Survey(options) => survey(rt, &options),
+        Invocation::Audit(options) => audit(rt, &options),
     }
 }
 
@@ -417,22 +425,14 @@ fn head<'a, R: AllocGlobal + Files<File = File> + Clock + Print + Eprint + Net +
     ensures stays { OnOk result (options.now.stays ≡ false) }
 {
     let alloc = rt.alloc();
-    let opened = match opened_events(rt, alloc, options.head, shown.events) {
-        Ok(opened) => opened,
+    let book = options.book.path;
+    let events = match begin_told(rt, alloc, options.head, book, shown) {
+        Ok(events) => events,
         Err(untold) => return Err(Ending::Told(untold)),
     };
-    let book = options.book.path;
-    if let Err(untold) = begin_metrics(rt, alloc, options.head, book, shown.metrics) {
-        return Err(Ending::Told(untold));
-    }
     let metrics = metrics_at(rt, alloc, options.head, book, shown.metrics);
-    let (events, rows) = match &opened {
-        Some((events, rows)) => (Some(events), Some(rows)),
-        None => (None, None),
-    };
     let told = HeadTold {
-        events,
-        rows,
+        events: events.as_ref(),
         metrics,
     };
     let writer = &mut io::writer(rt);
@@ -529,6 +529,21 @@ fn survey<'a, R: AllocGlobal + Files<File = File> + Clock + Print + Net + Wait>(
             let places = BookPlaces::of_survey(options);
             Err(Ending::Book(Because::from(fault), places, input))
         }
+    }
+}
+
+/// `audit`.
+fn audit<'a, R: AllocGlobal + Files<File = File> + Print>(
+    rt: &R,
+    options: &AuditOptions<'a>,
+) -> Result<(), Ending<'a>>
+    ensures fit { OnOk result (AllFit options.now) }
+{
+    let writer = &mut io::writer(rt);
+    match run_audit(rt, rt.alloc(), writer, options) {
+        Ok(AuditEnd::Fits) => Ok(()),
+        Ok(AuditEnd::Departs) => Err(Ending::Departs),
+        Err(ended) => Err(Ending::Audit(ended, options.audited)),
     }
 }
 
@@ -655,7 +670,8 @@ fn report(rt: &(impl Print + Eprint + Net + Files), ending: Ending<'_>) -> ExitC
             fail_at(rt, Fault::Output, Some(untold.place), refusal)
         }
         Ending::Keys(failure, places, input) => fail_keys(rt, &failure, &places, input),
-        Ending::Refused => ExitCode::from(FAULT),
+        Ending::Audit(ended, list) => fail_audit(rt, &ended, list),
+        Ending::Refused | Ending::Departs => ExitCode::from(FAULT),
         Ending::RowsFailed => ExitCode::from(ROWS_FAILED),
         Ending::RowsUnlisted => ExitCode::from(ROWS_UNLISTED),
         Ending::RowsLacking => ExitCode::from(ROWS_LACKING),
@@ -693,6 +709,14 @@ fn fail_keys(
     ExitCode::from(FAULT)
 }
 
+/// Prints why the audit of what this list has ended, as `fail_at` does.
+fn fail_audit(rt: &impl Eprint, ended: &AuditFault, list: &str) -> ExitCode
+    ensures { exit_status result ≡ 1 }
+{
+    let place = audit_places::place_of(ended, list);
+    fail_at(rt, ended.fault, place, refusal::of_reason(ended.reason))
+}
+
 /// Prints what the parser of the command line ended with: the help, the version or what is wrong.
 fn report_parse(rt: &(impl Print + Eprint + Net), error: clap::Error) -> ExitCode
     ensures { EndsParse (kind_of error) (exit_status result) }
@@ -712,9 +736,9 @@ fn report_parse(rt: &(impl Print + Eprint + Net), error: clap::Error) -> ExitCod
 
 /// Prints the name of a fault, and on a second line the option that it is about, with why that is refused, if it is known. Returns its exit
 /// status.
-fn fail_at<P: Display + Drop>(
+fn fail_at<F: Display + Drop, P: Display + Drop>(
     rt: &impl Eprint,
-    fault: Fault,
+    fault: F,
     place: Option<P>,
     refusal: Option<Refusal>,
 ) -> ExitCode

@@ -1,6 +1,7 @@
 //! The command line of `dlmsfw`, and its help.
 
 mod answer;
+mod audit;
 mod cancel;
 mod give_up;
 mod head;
@@ -19,6 +20,7 @@ mod trace;
 
 use clap::error::ErrorKind;
 use clap::{ArgMatches, Command, Error};
+use fw_auditor::AuditOptions;
 use fw_cli::{
     AnswerOptions, CancelOptions, GiveUpOptions, HeadOptions, KeysOptions, LiveOptions,
     MeterOptions, NameOptions, RehearseOptions, ReplayOptions, StatusOptions, StoredOptions,
@@ -47,6 +49,7 @@ pub(crate) enum Invocation<'a> {
     Status(StatusOptions<'a>),
     Survey(SurveyOptions<'a>),
     Trace(TraceOptions<'a>),
+    Audit(AuditOptions<'a>),
 }
 
 /// What is shown of a head end.
@@ -177,6 +180,7 @@ fn found<'a>(
         Some(("give-up", given)) => give_up::invoked(alloc, given),
         Some(("keys", given)) => keys::invoked(given),
         Some(("survey", given)) => survey::invoked(given),
+        Some(("audit", given)) => audit::invoked(alloc, given),
         Some((name, given)) => Ok(invoked(name, given)),
         None => Ok(None),
     }
@@ -219,7 +223,8 @@ fn dlmsfw<'a>(alloc: Global) -> Result<Command<'a>, AllocError> {
     let program = with(program, keys::command(alloc))?;
     let program = with(program, status::command(alloc))?;
     let program = with(program, survey::command(alloc))?;
-    with(program, trace::command(alloc))
+    let program = with(program, trace::command(alloc))?;
+    with(program, audit::command(alloc))
 }
 
 /// The program with one command more, which was made if memory wasn't refused. So this alone lets go of a program without it.

@@ -9,8 +9,8 @@ use Rattle.std.specs.declared.net.socket_addr.SocketAddr.{SocketAddr}
 use Rattle.fw_image.specs.Meter.{Image, Meter, reopened}
 use Rattle.fw_audit.specs.Log.{Item, started, log_of}
 use Rattle.fw_audit.specs.Stands.{ended, left_by, IsLog, IsMeterLog, Leads}
-use Rattle.fw_audit.specs.Departures.{IsDeparture, IsRefused}
-use Rattle.fw_audit.specs.Private.{Adds, AllDepart, AreAllLeft, AreOutlived, HasMeter, IsChosen, IsFrom, IsLeft}
+use Rattle.fw_audit.specs.Departures.{IsDeparture, IsRefused, MayWantMemory}
+use Rattle.fw_audit.specs.Private.{Adds, AllDepart, AreAllLeft, AreOutlived, HasMeter, IsChosen, IsFrom, IsLeft, StartsAt}
 use Rattle.fw_audit.specs.declared.error.AuditError.{AuditError}
 use Rattle.fw_audit.specs.declared.error.Departure.{Departure}
 use Rattle.fw_audit.specs.declared.error.Rule.TheVariants as broken
@@ -19,7 +19,7 @@ use Rattle.fw_audit.specs.declared.life.Left.{Left}
 use Rattle.fw_audit.proofs.Leading.{append, images_on, one_made, restart_from, restart_to, split, start_off, start_on}
 use Rattle.fw_audit.proofs.Steps.{alive_before}
 use Rattle.fw_audit.proofs.Lives.{departs_longer}
-use Rattle.fw_audit.proofs.Gathering.{all_from, in_cons, none_in, popped, some_one}
+use Rattle.fw_audit.proofs.Gathering.{adds_one, all_from, in_cons, none_in, popped, some_one}
 use Rattle.fw_audit.proofs.Items.{log_size, log_slice}
 
 -- ---- the beginning
@@ -46,6 +46,23 @@ begins heads begin left lefts is so_far rests adds = record {
     by_place : (any : Left) → Contains [] any ⊎ (any ≡ left) → IsLeft heads [] begin [] any
     by_place any (inl there) = absurd (none_in any there)
     by_place any (inr same) = subst (IsLeft heads [] begin []) (sym same) first
+
+-- a process that was never started
+pub alone : (heads : List SocketAddr) (begin : Meter) (left : Left) → left.meter.meter ≡ begin → left.switched.items ≡ [] → reopened left.meter.meter ≡ left.meter.meter
+    → AreAllLeft heads begin [] (left ∷ [])
+alone heads begin left is so_far rests = begins heads begin left (left ∷ []) is so_far rests (adds_one [] left)
+
+pub no_items : (items : List LogItem) → length items ≡ 0 → [] ≡ log_of items
+no_items [] none = refl
+no_items (item ∷ items) none = absurd (omega arith)
+
+-- a log that begins with a start
+pub begins_started : (log : List Item) → 1 ≤ length log → StartsAt log 0 → MayWantMemory log
+begins_started [] some starts = absurd (omega arith)
+begins_started (first ∷ log) some starts =
+    let there = starts (omega arith) in
+    let same : first ≡ started = cc in
+    (log, ap (λ (item : Item). item ∷ log) same)
 
 -- a log that begins with no start
 pub not_started : (heads : List SocketAddr) (begin : Meter) (log : List Item) (item : Item) → slice_get log 0 ≡ Some item → (item ≡ started → ⊥)

@@ -1,8 +1,8 @@
 -- Public vocabulary: why a log is none of a meter, or not of the one whose store was found.
-use Rattle.std.specs.Prelude.{◌≡◌, ◌+◌, List, take, slice_get, Some}
+use Rattle.std.specs.Prelude.{◌≡◌, ◌+◌, List, ◌∷◌, take, slice_get, Some}
 use Rattle.std.specs.declared.net.socket_addr.SocketAddr.{SocketAddr}
 use Rattle.fw_image.specs.Meter.{Image, Meter}
-use Rattle.fw_audit.specs.Log.{Item, sent, turned}
+use Rattle.fw_audit.specs.Log.{Item, started, sent, turned}
 use Rattle.fw_audit.specs.Stands.{Stand, ended, waits, owes, Leads, IsLog, IsMeterLog}
 use Rattle.fw_audit.specs.declared.error.Rule.{Rule}
 use Rattle.fw_audit.specs.declared.error.Rule.TheVariants as broken
@@ -28,8 +28,12 @@ pub record IsDeparture (heads : List SocketAddr) (old : Stand) (log : List Item)
   pub rule : d.rule ≡ rule_of stand item
   pub departs : (others : List Image) (new : Stand) → Leads heads old (take (d.at + 1) log) others new → ⊥
 
+-- Memory may be wanted if a process was started: for what it may have left, and for what came to it. Otherwise none is.
+abbrev pub MayWantMemory : List Item → Type 0
+MayWantMemory log = (rest : List Item) × (log ≡ started ∷ rest)
+
 -- What an audit says of a log from a store with one meter to a store with another.
 abbrev pub IsRefused : List SocketAddr → Meter → List Item → Meter → AuditError → Type 0
 IsRefused heads begin log end (errors.Departs d) = IsDeparture heads (ended begin) log d
 IsRefused heads begin log end errors.OtherStore = IsLog heads begin log × ((images : List Image) → IsMeterLog heads begin log images end → ⊥)
-IsRefused heads begin log end errors.OutOfMemory = Unit {0}
+IsRefused heads begin log end errors.OutOfMemory = MayWantMemory log

@@ -198,7 +198,7 @@ pub record AreAllLeft (heads : List SocketAddr) (begin : Meter) (log : List Item
 abbrev pub IsFollowed : List SocketAddr → Meter → List Item → Result (Vec Left) Stop → Type 0
 IsFollowed heads begin log (Ok lefts) = AreAllLeft heads begin log lefts.items
 IsFollowed heads begin log (Err (stops.Departs d)) = IsDeparture heads (ended begin) log d
-IsFollowed heads begin log (Err stops.OutOfMemory) = Unit {0}
+IsFollowed heads begin log (Err stops.OutOfMemory) = StartsAt log 0
 
 abbrev pub IsChosen : List SocketAddr → Meter → List Item → Meter → Result (Vec Image) AuditError → Type 0
 IsChosen heads begin log end (Ok images) = IsMeterLog heads begin log images.items end

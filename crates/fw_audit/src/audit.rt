@@ -1,6 +1,6 @@
 //! The audit of a log and two stores.
 
-ghost use Rattle.std.specs.Prelude.{◌≡◌, ◌≢◌, ◌≤◌, ◌⊎◌, false, All, IfErr, IfOk, IfSome, IsTrue, List, Some, length, slice_get};
+ghost use Rattle.std.specs.Prelude.{◌≡◌, ◌≢◌, ◌≤◌, ◌⊎◌, [], false, All, IfErr, IfOk, IfSome, IsTrue, List, Some, length, slice_get};
 ghost use Rattle.std.specs.List.{AllWithin};
 ghost use Rattle.fw_image.specs.Meter.{Meter, reopened};
 ghost use Rattle.fw_store.specs.Setup.{IsCapacity};
@@ -29,7 +29,7 @@ use std::net::SocketAddr;
 ///
 /// - `Departs` just if the log is none of this meter. It is the first item with which it is none.
 /// - `OtherStore` just if it is one, and no meter with this log leaves that store.
-/// - `OutOfMemory`: memory was refused, and nothing is said of the log.
+/// - `OutOfMemory`: memory was refused. Of the log nothing is said but that it begins with a start.
 pub fn audit_meter(
     alloc: Global,
     heads: &[SocketAddr],
@@ -41,11 +41,29 @@ pub fn audit_meter(
     ensures is { IfOk result (λ images. IsMeterLog heads.now (reopened begin.meter) (log_of items.now) images.items end.now.meter) }
     ensures refused { IfErr result (λ error. IsRefused heads.now (reopened begin.meter) (log_of items.now) end.now.meter error) }
 {
+    if items.is_empty() {
+        return never_started(alloc, begin, end);
+    }
     match followed(alloc, heads, begin, items) {
         Ok(lefts) => chosen(lefts, end),
         Err(Stop::Departs(departure)) => Err(AuditError::Departs(departure)),
         Err(Stop::OutOfMemory) => Err(AuditError::OutOfMemory),
     }
+}
+
+/// The images that a meter switched to whose process was never started: none. Its store is left as it was, and no memory is taken.
+fn never_started(
+    alloc: Global,
+    begin: MeterCore<MemoryStore>,
+    end: &MeterCore<MemoryStore>,
+) -> Result<Vec<Switched>, AuditError>
+    ensures { (heads : List SocketAddr) → IsChosen heads (reopened begin.meter) [] end.now.meter result }
+{
+    let left = Left::new(begin, Vec::new(alloc));
+    if left.is(end) {
+        return Ok(left.into_images());
+    }
+    Err(AuditError::OtherStore)
 }
 
 /// The images that the meter switched to which is the one of the store that was found.

@@ -33,7 +33,7 @@ pub enum AuditError {
     Departs(Departure),
     /// The log is one of this meter, and its store holds another meter after it, whatever kills left.
     OtherStore,
-    /// Memory was refused. Nothing is said of the log.
+    /// Memory was refused. Of the log nothing is said but that it begins with a start.
     OutOfMemory,
 }
 

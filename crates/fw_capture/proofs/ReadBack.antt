@@ -109,6 +109,9 @@ ipv6_datagram_back from to m n bytes source dest fits =
 note_back : (n : Note) → IsNote n → frame_at link.Raw (ip_packet (note n)) ≡ Ok (note n)
 note_back notes.Start fits = ipv4_back note_protocol loopback loopback (note_text notes.Start) refl refl refl (omega arith)
 note_back notes.Turn fits = ipv4_back note_protocol loopback loopback (note_text notes.Turn) refl refl refl (omega arith)
+note_back (notes.TurnAt port) fits =
+    ipv4_back note_protocol loopback loopback (note_text (notes.TurnAt port)) refl refl refl (omega arith)
+    ∙ ap (λ (n : ℕ). Ok (note (notes.TurnAt n))) (from_be_bytes-to_be_bytes_2 port fits)
 note_back (notes.Strangers count) fits =
     ipv4_back note_protocol loopback loopback (note_text (notes.Strangers count)) refl refl refl (omega arith)
     ∙ ap (λ (n : ℕ). Ok (note (notes.Strangers n))) (from_be_bytes-to_be_bytes_8 count fits)
@@ -116,6 +119,7 @@ note_back (notes.Strangers count) fits =
 note_size : (n : Note) → length (ip_packet (note n)) < 2 ^ 32
 note_size notes.Start = omega arith
 note_size notes.Turn = omega arith
+note_size (notes.TurnAt port) = omega arith
 note_size (notes.Strangers count) = omega arith
 
 -- ---- pcap

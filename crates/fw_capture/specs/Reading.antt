@@ -9,7 +9,7 @@ use Rattle.fw_capture.specs.declared.format.Link.{Link}
 use Rattle.fw_capture.specs.declared.format.Link.TheVariants as link
 use Rattle.fw_capture.specs.declared.packet.Note.TheVariants as notes
 use Rattle.fw_capture.specs.View.{Endpoint, ipv4, ipv6, Told, datagram, note, other}
-use Rattle.fw_capture.specs.Spelling.{note_protocol, note_text, strangers_words, second}
+use Rattle.fw_capture.specs.Spelling.{note_protocol, note_text, strangers_words, turn_words, second}
 
 -- what comes of the value that is read; a fault stays
 infixl 10 ◌>>=◌
@@ -74,11 +74,16 @@ abbrev pub strangers_at : List ℕ → Told
 strangers_at payload =
     if length payload == 25 && bytes_eq (take 17 payload) strangers_words then note (notes.Strangers (long_at 17 payload)) else other
 
+-- the note of a turn of this text: the port of its meter follows the words, in two bytes; or that of strangers
+abbrev pub numbered_at : List ℕ → Told
+numbered_at payload =
+    if length payload == 14 && bytes_eq (take 12 payload) turn_words then note (notes.TurnAt (short_at 12 payload)) else strangers_at payload
+
 -- the note of this text; any other packet for experiments is none
 abbrev pub note_at : List ℕ → Told
 note_at payload =
     if bytes_eq payload (note_text notes.Start) then note notes.Start else (
-    if bytes_eq payload (note_text notes.Turn) then note notes.Turn else strangers_at payload)
+    if bytes_eq payload (note_text notes.Turn) then note notes.Turn else numbered_at payload)
 
 -- what a datagram or a packet for experiments tells, by the header before it: the addresses are four bytes at 12 and at 16
 abbrev pub ipv4_payload_at : List ℕ → List ℕ → Result Told CaptureFault

@@ -54,14 +54,19 @@ ipv6_pseudo from to size = from ++ to ++ (to_be_bytes w32 size ++ (0 ∷ 0 ∷ 0
 
 -- ---- notes, which are an own form
 
+-- the words of a note of a turn of one meter
+abbrev pub turn_words : List ℕ
+turn_words = codes "dlmsfw turn "
+
 -- the words of a note of strangers
 abbrev pub strangers_words : List ℕ
 strangers_words = codes "dlmsfw strangers "
 
--- the text of a note; of strangers their number stands behind the words
+-- the text of a note; behind the words stands the port of the meter whose turn it is, or the number of strangers
 abbrev pub note_text : Note → List ℕ
 note_text notes.Start = codes "dlmsfw start"
 note_text notes.Turn = codes "dlmsfw turn"
+note_text (notes.TurnAt port) = turn_words ++ to_be_bytes w16 port
 note_text (notes.Strangers count) = strangers_words ++ to_be_bytes w64 count
 
 -- 127.0.0.1, which a note goes from and to

@@ -38,10 +38,11 @@ abbrev pub IsEndpoint : Endpoint → Type 0
 IsEndpoint (ipv4 address port) = (length address ≡ 4) × (port < 2 ^ 16)
 IsEndpoint (ipv6 address port) = (length address ≡ 16) × (port < 2 ^ 16)
 
--- a number of strangers has 64 bits
+-- a port has 16 bits, and a number of strangers 64
 abbrev pub IsNote : Note → Type 0
 IsNote notes.Start = Unit {0}
 IsNote notes.Turn = Unit {0}
+IsNote (notes.TurnAt port) = port < 2 ^ 16
 IsNote (notes.Strangers count) = count < 2 ^ 64
 
 -- a datagram between two endpoints, or a note

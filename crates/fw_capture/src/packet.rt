@@ -10,8 +10,10 @@ pub(crate) const SECOND: u64 = 1_000_000_000;
 pub enum Note {
     /// The process started.
     Start,
-    /// The meter took a turn of a verification.
+    /// A meter took a turn of a verification. Of several in a process it isn't known which.
     Turn,
+    /// The meter that has this port took a turn of a verification.
+    TurnAt(u16),
     /// So many datagrams came from strangers since the last record, and have none.
     Strangers(u64),
 }

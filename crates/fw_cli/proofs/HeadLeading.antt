@@ -14,6 +14,9 @@ use Rattle.fw_faults.specs.declared.fault.Fault.{Fault}
 use Rattle.fw_faults.specs.declared.fault.Fault.TheVariants as fault
 use Rattle.fw_faults.specs.Faults.{fault_of_stop}
 use Rattle.fw_host.specs.Captures.{IsOfCapture}
+use Rattle.fw_host.specs.Faults.{fault_of_list}
+use Rattle.fw_host.specs.declared.error.ListError.{ListError}
+use Rattle.fw_host.specs.declared.error.ListError.TheVariants as list
 use Rattle.fw_host.specs.declared.sealing.SealingOptions.{SealingOptions}
 use Rattle.fw_host.specs.Heads.{ComesBeforeLines, IsCancelFault, IsOfBook, IsOfHead, IsOfHeadSetup, IsOfNewBook, IsOfOldBook, IsOpenFault}
 use Rattle.fw_host.specs.Openings.{CancelsRefused, PartsRefused, RefusesOne, RefusesOneCancel}
@@ -173,6 +176,10 @@ open_fault refusal fault.OutOfMemory is = tt
 open_fault refusal f is = absurd is
 
 -- ---- what comes before the first line
+
+pub list_refused : (e : ListError) → IsOfList (fault_of_list e)
+list_refused (list.BadList line) = tt
+list_refused list.OutOfMemory = tt
 
 pub list_in_setup : (f : Fault) → IsOfList f → IsOfHeadSetup f
 list_in_setup fault.ListFault is = tt

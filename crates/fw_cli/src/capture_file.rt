@@ -35,10 +35,13 @@ impl CaptureFile {
     {
         match path {
             None => Ok(None),
-            Some(path) => {
-                let file = open_capture(rt, alloc, path)?;
-                Ok(Some(CaptureFile { file, cause: None }))
-            }
+            Some(path) => match open_capture(rt, alloc, path) {
+                Ok(file) => Ok(Some(CaptureFile { file, cause: None })),
+                Err(because) => Err(Because {
+                    error: Fault::from(because.error),
+                    reason: because.reason,
+                }),
+            },
         }
     }
 }

@@ -497,7 +497,7 @@ pub(crate) fn list_of_file<F: Files<File = File> + Net>(
     ensures faults { IfErr result IsOfList }
 {
     let text = bytes_of_file(rt, alloc, path, Fault::ListFault, Fault::ListFault)?;
-    read_list(rt, alloc, &text, own)
+    Ok(read_list(rt, alloc, &text, own)?)
 }
 
 /// All bytes of a file, and one of these faults where it can't be read, or has more than 64 MiB.

@@ -3,11 +3,11 @@
 ghost use Rattle.std.specs.Prelude.{◌≡◌, None, Err, IfErr};
 ghost use Rattle.fw_store.specs.Setup.{IsSetup};
 ghost use Rattle.fw_store.specs.declared.version.HeaderVersion.TheVariants.{Two};
-ghost use Rattle.fw_host.specs.Meters.{IsOfNewStore, IsOfSetup, IsOfStore, default_factory};
+ghost use Rattle.fw_host.specs.Meters.{IsOfSetup, IsOfStore, default_factory};
 
 use fw_disk::Because;
 use fw_faults::Fault;
-use fw_host::{NewMeter, NewStore, found_meter};
+use fw_host::{NewMeter, NewStore, NewStoreError, found_meter};
 use fw_meter::MeterCore;
 use fw_store::FileStore;
 use std::alloc::Global;
@@ -80,7 +80,7 @@ impl<'a> Judge<'a> {
             Ok(Some(meter)) => Ok(Judged::Found(meter)),
             Ok(None) => match self.new_store(rt, alloc) {
                 Ok(new) => Ok(Judged::New(new)),
-                Err(fault) => Err(Because::from(fault)),
+                Err(error) => Err(Because::from(Fault::from(error))),
             },
             Err(because) => Err(because),
         }
@@ -91,11 +91,10 @@ impl<'a> Judge<'a> {
         &mut self,
         rt: &F,
         alloc: Global,
-    ) -> Result<Rc<NewStore>, Fault>
+    ) -> Result<Rc<NewStore>, NewStoreError>
         ensures fresh { self.new.fresh ≡ self.old.fresh }
-        ensures bad_setup { self.old.fresh.factory_file ≡ None → result ≡ Err Fault.BadSetup
+        ensures bad_setup { self.old.fresh.factory_file ≡ None → result ≡ Err NewStoreError.BadSetup
             → ¬ IsSetup Two self.old.fresh.block_size self.old.fresh.capacity default_factory }
-        ensures faults { IfErr result IsOfNewStore }
     {
         if let Some(store) = &self.store {
             return Ok(store.clone()?);

@@ -4,13 +4,11 @@ ghost use Rattle.std.specs.Prelude.{
   ◌≡◌,
   ◌≢◌,
   ◌<◌,
-  ◌≤◌,
   ◌⊎◌,
   ◌↔◌,
   ℕ,
   List,
   None,
-  length,
   IsTrue,
   IfOk,
   IfErr,
@@ -27,7 +25,6 @@ ghost use Rattle.fw_air.specs.Fates.{IsFates};
 ghost use Rattle.fw_air.specs.Schedules.{IsOfWorld};
 ghost use Rattle.fw_script.specs.Fates.{SpellsFates, SpellsSome};
 ghost use Rattle.fw_cli.specs.Faults.{IsOfReplay};
-ghost use Rattle.fw_faults.specs.Reading.{max_input};
 ghost use Rattle.fw_cli.specs.Private.{rounds_in};
 ghost use Rattle.fw_script.specs.Script.{IsBadLine};
 ghost use Rattle.fw_cli.specs.Replaying.{
@@ -49,10 +46,11 @@ ghost use Rattle.fw_cli.specs.Scripts.{EndsBy};
 
 use crate::capture::write_capture;
 use crate::progress::RoundsWatch;
+use crate::workers::script_of;
 use fw_air::{Fate, Fates, schedule_watched};
 use fw_faults::{Fault, Reads, read_input, write_text};
 use fw_report::{Refusal, Style, append_report_in, append_trace_of};
-use fw_script::{Script, read_fates, read_script};
+use fw_script::{FatesError, Script, read_fates};
 use fw_world::{Event, RunError, Setup, SetupError, StepError, World, run};
 use std::alloc::{AllocError, Global};
 use std::io::{Read, Write};
@@ -168,10 +166,14 @@ pub(crate) fn air_of(alloc: Global, rounds: &Rounds<'_>) -> Result<Air, Fault>
     ensures memory { result ≡ Err Fault.OutOfMemory → SpellsSome rounds.now.fates.now }
     ensures faults { IfErr result (λ f. (f ≡ Fault.BadFates) ⊎ (f ≡ Fault.OutOfMemory)) }
 {
-    Ok(Air {
-        rounds: rounds.rounds,
-        fates: read_fates(alloc, rounds.fates.as_bytes())?,
-    })
+    match read_fates(alloc, rounds.fates.as_bytes()) {
+        Ok(fates) => Ok(Air {
+            rounds: rounds.rounds,
+            fates,
+        }),
+        Err(FatesError::BadFates) => Err(Fault::BadFates),
+        Err(FatesError::OutOfMemory) => Err(Fault::OutOfMemory),
+    }
 }
 
 /// Runs the script that the reader has, and writes the capture and the report of it.
@@ -208,7 +210,6 @@ fn replay<E: Eprint>(
     air: &Option<Air>,
     style: Style,
 ) -> Result<Told, Fault>
-    requires size { length input.now ≤ max_input }
     requires fates { IfSome air.now (λ air. IsFates air.fates.items) }
     ensures ok { IfOk result (λ told. Tells (rounds_in air.now) style input.now told.ended told.world (string_bytes told.text)) }
     ensures bad_line { (number : ℕ) → result ≡ Err (Fault.BadLine number) → IsBadLine input.now number }
@@ -216,7 +217,7 @@ fn replay<E: Eprint>(
     ensures memory { result ≡ Err Fault.OutOfMemory → MayTakeMemory input.now }
     ensures faults { IfErr result (λ f. (f ≡ Fault.OutOfMemory) ⊎ ((f ≡ Fault.BadSetup) ⊎ ((number : ℕ) × (f ≡ Fault.BadLine number)))) }
 {
-    let Script { setup, events } = read_script(alloc, input)?;
+    let Script { setup, events } = script_of(alloc, input)?;
     let events = with_rounds(alloc, &setup, events, terminal, air)?;
     tell_run(alloc, &setup, &events, style)
 }

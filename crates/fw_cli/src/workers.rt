@@ -7,12 +7,12 @@ ghost use Rattle.fw_faults.specs.Reading.{ReadsUntil};
 ghost use Rattle.fw_cli.specs.Private.{fault_of_rehearsal};
 ghost use Rattle.fw_cli.specs.Rehearsing.{ReadsScript, TellsOfWorkers, TracesWorkers};
 ghost use Rattle.fw_cli.specs.Replaying.{MayWantFor, ReadsOne};
-ghost use Rattle.fw_script.specs.Script.{IsBadLine};
+ghost use Rattle.fw_script.specs.Script.{BeginsScript, IsBadLine, SpellsScript, script_of};
 
 use fw_accounts::{Report, recorded_events};
 use fw_faults::{Fault, Reads, read_input};
 use fw_report::{append_board, append_report, append_trace_of};
-use fw_script::{Script, read_script};
+use fw_script::{Script, ScriptError, read_script};
 use fw_workers::RehearseError;
 use fw_world::{Event, Setup, World};
 use std::alloc::{AllocError, Global};
@@ -37,7 +37,21 @@ pub(crate) fn script_from<R: Read>(alloc: Global, reader: &mut R) -> Result<Scri
 {
     let mut reads = Reads::none();
     let input = read_input(alloc, reader, &mut reads)?;
-    read_script(alloc, &input)
+    script_of(alloc, &input)
+}
+
+/// The script that the input spells.
+pub(crate) fn script_of(alloc: Global, input: &[u8]) -> Result<Script, Fault>
+    ensures ok { IfOk result (λ script. SpellsScript input.now (script_of script.setup script.events.items)) }
+    ensures bad_line { (number : ℕ) → result ≡ Err (Fault.BadLine number) → IsBadLine input.now number }
+    ensures memory { result ≡ Err Fault.OutOfMemory → BeginsScript input.now }
+    ensures faults { IfErr result (λ f. (f ≡ Fault.OutOfMemory) ⊎ ((number : ℕ) × (f ≡ Fault.BadLine number))) }
+{
+    match read_script(alloc, input) {
+        Ok(script) => Ok(script),
+        Err(ScriptError::BadLine(number)) => Err(Fault::BadLine(number)),
+        Err(ScriptError::OutOfMemory) => Err(Fault::OutOfMemory),
+    }
 }
 
 /// The fault that says why workers have no report.

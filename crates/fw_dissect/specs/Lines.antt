@@ -84,6 +84,7 @@ datagram_line number from to words = front_text number from to ++ (words ++ code
 abbrev pub note_line : Note → List ℕ
 note_line notes.Start = codes "start\n"
 note_line notes.Turn = codes "turn\n"
+note_line (notes.TurnAt port) = codes "turn " ++ (decimal port ++ codes "\n")
 note_line (notes.Strangers count) = codes "strangers " ++ (decimal count ++ codes "\n")
 
 -- the time and a space, where times are asked for

@@ -59,6 +59,7 @@ fn append_note(text: &mut String, note: Note) -> Result<(), AllocError>
     match note {
         Note::Start => text.push_str("start\n"),
         Note::Turn => text.push_str("turn\n"),
+        Note::TurnAt(port) => write!(text, "turn {port}\n"),
         Note::Strangers(count) => write!(text, "strangers {count}\n"),
     }
 }

@@ -1,5 +1,5 @@
 -- Stores that are opened, and what they hold.
-use Rattle.std.proofs.Common.{◌≡◌, ◌≢◌, ℕ, List, true, false, refl, sym, subst}
+use Rattle.std.proofs.Common.{◌≡◌, ◌≢◌, ℕ, List, true, false, inr, refl, sym, subst}
 use Rattle.std.specs.Prelude.{IsTrue}
 use Rattle.fw_cuts.specs.Rest.{IsRecovered}
 use Rattle.fw_store.specs.Device.{Device}
@@ -65,7 +65,7 @@ none_made store undo made refusals.ForeignUndo recovered none = absurd none
 none_made store undo made refusals.BadFile recovered none = (made, recovered, none)
 none_made store undo made refusals.BadHeader recovered none = (made, recovered, none)
 none_made store undo made refusals.BadImage recovered none = (made, recovered, none)
-none_made store undo made refusals.OutOfMemory recovered none = tt
+none_made store undo made refusals.OutOfMemory recovered none = inr (made, recovered, none)
 
 -- ---- a new store
 

@@ -1,12 +1,16 @@
 -- Public vocabulary: what a record of a capture says in the log of a meter.
-use Rattle.std.specs.Prelude.{ℕ, Bool, false, List, [], ◌∷◌, map, Result, Ok, Err, ◌==◌, ◌&&◌, if◌then◌else◌}
+use Rattle.std.specs.Prelude.{ℕ, Bool, false, List, [], ◌∷◌, length, map, Result, Ok, Err, ◌==◌, ◌&&◌, ◌||◌, if◌then◌else◌}
+use Rattle.std.specs.List.{list_any}
+use Rattle.std.specs.Net.Socket.{socket_port}
 use Rattle.std.specs.Str.{bytes_eq}
+use Rattle.std.specs.declared.net.socket_addr.SocketAddr.{SocketAddr}
 use Rattle.fw_capture.specs.declared.packet.Note.{Note}
 use Rattle.fw_capture.specs.declared.packet.Note.TheVariants as notes
 use Rattle.fw_capture.specs.View.{Endpoint, ipv4, ipv6, Told, datagram, note, other, endpoint_of}
 use Rattle.fw_audit.specs.Log.{Item, started, came, sent, turned}
 use Rattle.fw_evidence.specs.declared.error.Stray.{Stray}
 use Rattle.fw_evidence.specs.declared.error.Stray.TheVariants as stray
+use Rattle.fw_evidence.specs.declared.site.Site.{Site}
 
 -- an item of a log as a record has it: of an address the IP address and the port
 pub data Entry : Type 0 where
@@ -33,20 +37,40 @@ same_end (ipv4 one m) (ipv6 two n) = false
 same_end (ipv6 one m) (ipv4 two n) = false
 same_end (ipv6 one m) (ipv6 two n) = m == n && bytes_eq one two
 
--- what a datagram is to the meter at an address: it was sent from there, or it came there
-abbrev pub exchange_at : Endpoint → Endpoint → Endpoint → List ℕ → Result (List Entry) Stray
-exchange_at at from to bytes =
-    if same_end from at then (if same_end to at then Err stray.ToItself else Ok (goes to bytes ∷ []))
-    else (if same_end to at then Ok (comes from bytes ∷ []) else Err stray.Elsewhere)
+-- whether an address is that of the meter at a site, or of another meter of its process
+abbrev pub is_own : Site → Endpoint → Bool
+is_own site end = same_end (endpoint_of site.at) end
 
--- what a note is. One that counts datagrams of strangers is nothing: their meter drops them
-abbrev pub noted : Note → List Entry
-noted notes.Start = starts ∷ []
-noted notes.Turn = turns ∷ []
-noted (notes.Strangers count) = []
+abbrev pub is_other : Site → Endpoint → Bool
+is_other site end = list_any (λ (other : SocketAddr). same_end (endpoint_of other) end) site.others.now
 
--- the entries of what a record tells to the meter at an address, one or none; or why it is none of that meter's
-abbrev pub entries_at : Endpoint → Told → Result (List Entry) Stray
-entries_at at (datagram from to bytes) = exchange_at at from to bytes
-entries_at at (note n) = Ok (noted n)
-entries_at at other = Err stray.NoEntry
+-- What a datagram is to the meter at a site: it was sent from there, or it came there; it is nothing if it is another one's. Between two of
+-- these meters it can't be told.
+abbrev pub exchange_at : Site → Endpoint → Endpoint → List ℕ → Result (List Entry) Stray
+exchange_at site from to bytes =
+    if is_own site from then (if is_own site to || is_other site to then Err stray.ToItself else Ok (goes to bytes ∷ []))
+    else (if is_own site to then (if is_other site from then Err stray.ToItself else Ok (comes from bytes ∷ []))
+    else (if is_other site from || is_other site to then Ok [] else Err stray.Elsewhere))
+
+-- a turn of the meter that has this port
+abbrev pub turn_at : Site → ℕ → Result (List Entry) Stray
+turn_at site port =
+    if socket_port site.at == port then Ok (turns ∷ [])
+    else (if list_any (λ (other : SocketAddr). socket_port other == port) site.others.now then Ok [] else Err stray.Elsewhere)
+
+-- a turn of a meter that isn't named: of the only one, if there is one
+abbrev pub some_turn : Site → Result (List Entry) Stray
+some_turn site = if length site.others.now == 0 then Ok (turns ∷ []) else Err stray.UnnamedTurn
+
+-- what a note is. All meters of a process start with it. One that counts datagrams of strangers is nothing: their meter drops them
+abbrev pub noted : Site → Note → Result (List Entry) Stray
+noted site notes.Start = Ok (starts ∷ [])
+noted site notes.Turn = some_turn site
+noted site (notes.TurnAt port) = turn_at site port
+noted site (notes.Strangers count) = Ok []
+
+-- the entries of what a record tells to the meter at a site, one or none; or why it is of no meter there
+abbrev pub entries_at : Site → Told → Result (List Entry) Stray
+entries_at site (datagram from to bytes) = exchange_at site from to bytes
+entries_at site (note n) = noted site n
+entries_at site other = Err stray.NoEntry

@@ -1,6 +1,6 @@
 -- For private members alone: no public clause cites it.
 use Rattle.std.specs.Prelude.{◌≡◌, ◌<◌, ◌++◌, ℕ, slice_get, List, [], ◌∷◌, Option, Some, None, Result, Ok, Err, option_to_list}
-use Rattle.fw_capture.specs.View.{Endpoint, Told}
+use Rattle.fw_capture.specs.View.{Told}
 use Rattle.fw_audit.specs.Log.{item_of}
 use Rattle.fw_audit.specs.declared.error.AuditError.{AuditError}
 use Rattle.fw_audit.specs.declared.error.AuditError.TheVariants as audit
@@ -15,6 +15,7 @@ use Rattle.fw_evidence.specs.declared.error.LogError.{LogError}
 use Rattle.fw_evidence.specs.declared.error.LogError.TheVariants as errors
 use Rattle.fw_evidence.specs.declared.error.Mark.{Mark}
 use Rattle.fw_evidence.specs.declared.error.Stray.{Stray}
+use Rattle.fw_evidence.specs.declared.site.Site.{Site}
 use Rattle.fw_evidence.specs.declared.error.StoreRefusal.{StoreRefusal}
 use Rattle.fw_evidence.specs.declared.error.StoreRefusal.TheVariants as refusals
 
@@ -33,18 +34,18 @@ abbrev pub marks_in : Mark → Option LogItem → List Mark
 marks_in mark None = []
 marks_in mark (Some item) = mark ∷ []
 
--- what a record of this mark says to the meter at an address was appended
-pub record Takes (at : Endpoint) (mark : Mark) (told : Told) (items : List LogItem) (marks : List Mark) (more : List LogItem) (longer : List Mark) : Type 0 where
+-- what a record of this mark says to the meter at a site was appended
+pub record Takes (site : Site) (mark : Mark) (told : Told) (items : List LogItem) (marks : List Mark) (more : List LogItem) (longer : List Mark) : Type 0 where
   pub item : Option LogItem
-  pub says : entries_at at told ≡ Ok (entries_in item)
+  pub says : entries_at site told ≡ Ok (entries_in item)
   pub items_are : more ≡ items ++ option_to_list item
   pub marks_are : longer ≡ marks ++ marks_in mark item
 
--- or it is none of the meter's, or memory was refused
-abbrev pub IsStrayAt : Endpoint → Mark → Told → LogError → Type 0
-IsStrayAt at mark told (errors.Fault error) = ⊥
-IsStrayAt at mark told (errors.Stray where_it_is why) = (where_it_is ≡ mark) × (entries_at at told ≡ Err why)
-IsStrayAt at mark told errors.OutOfMemory = Unit {0}
+-- or it is none of the meter's, or memory was refused for what it says
+abbrev pub IsStrayAt : Site → Mark → Told → LogError → Type 0
+IsStrayAt site mark told (errors.Fault error) = ⊥
+IsStrayAt site mark told (errors.Stray where_it_is why) = (where_it_is ≡ mark) × (entries_at site told ≡ Err why)
+IsStrayAt site mark told errors.OutOfMemory = (entry : Entry) × (entries_at site told ≡ Ok (entry ∷ []))
 
 -- an audit departs at one of so many items, if at all
 abbrev pub IsWithin : ℕ → AuditError → Type 0

@@ -3,7 +3,6 @@
 ghost use Rattle.std.specs.Prelude.{◌<◌, IfErr, IfOk, length};
 ghost use Rattle.fw_audit.specs.Log.{log_of};
 ghost use Rattle.fw_audit.specs.Stands.{IsMeterLog};
-ghost use Rattle.fw_capture.specs.View.{endpoint_of};
 ghost use Rattle.fw_image.specs.Meter.{reopened};
 ghost use Rattle.fw_store.specs.Setup.{IsCapacity};
 ghost use Rattle.fw_evidence.specs.Audits.{IsUnfit};
@@ -12,6 +11,7 @@ ghost use Rattle.fw_evidence.specs.Private.{DepartsIn, IsMarked, IsWithin};
 
 use crate::error::{EvidenceError, Mark};
 use crate::log::{Log, read_log};
+use crate::site::Site;
 use fw_audit::{AuditError, Departure, Switched, audit_meter};
 use fw_meter::MeterCore;
 use fw_store::MemoryStore;
@@ -27,30 +27,30 @@ pub struct Audited<'a> {
     pub images: Vec<Switched>,
 }
 
-/// Whether this capture is a log of the meter at an address that `begin` was, which just these addresses may ask (any, if there are none), and
+/// Whether this capture is a log of the meter at a site that `begin` was, which just these addresses may ask (any, if there are none), and
 /// that meter is what `end` is after it. Both meters are as their stores hold them at rest.
 ///
 /// # Errors
 ///
-/// - `NoLog` just if the capture is no log of a meter at this address.
+/// - `NoLog` just if the capture is no log of a meter at this site.
 /// - `Departs` just if the log is none of this meter. The item in this record is the first with which it is none.
 /// - `OtherStore` just if it is one, and no meter with this log leaves that store.
-/// - `OutOfMemory`: memory was refused, and nothing is said.
+/// - `OutOfMemory`: the capture is a log that begins with a start, and memory was refused to follow it.
 pub fn audit_capture<'a>(
     alloc: Global,
     heads: &[SocketAddr],
-    at: SocketAddr,
+    site: Site<'_>,
     begin: MeterCore<MemoryStore>,
     capture: &'a [u8],
     end: &MeterCore<MemoryStore>,
 ) -> Result<Audited<'a>, EvidenceError>
     requires { IsCapacity begin.meter.capacity }
-    ensures log { IfOk result (λ found. IsLogOf (endpoint_of at) capture.now (log_of found.log.items.items) found.log.marks.items) }
+    ensures log { IfOk result (λ found. IsLogOf site.entry capture.now (log_of found.log.items.items) found.log.marks.items) }
     ensures is { IfOk result (λ found. IsMeterLog heads.now (reopened begin.meter) (log_of found.log.items.items) found.images.items
         end.now.meter) }
-    ensures refused { IfErr result (λ error. IsUnfit heads.now (endpoint_of at) (reopened begin.meter) capture.now end.now.meter error) }
+    ensures refused { IfErr result (λ error. IsUnfit heads.now site.entry (reopened begin.meter) capture.now end.now.meter error) }
 {
-    let log = match read_log(alloc, at, capture) {
+    let log = match read_log(alloc, site, capture) {
         Ok(log) => log,
         Err(error) => return Err(EvidenceError::NoLog(error)),
     };

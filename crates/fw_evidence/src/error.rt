@@ -14,15 +14,18 @@ pub struct Mark {
     pub offset: usize,
 }
 
-/// Why a record is none of the meter whose log is read.
+/// Why a record is none of the meter whose log is read, nor of another one of its process.
 #[derive(Clone, Copy, Debug)]
 pub enum Stray {
     /// It is neither a UDP datagram nor a note.
     NoEntry,
-    /// Its datagram neither came to the address of the meter nor was sent from there.
+    /// Its datagram neither came to a meter of this process nor was sent by one, or its turn is of none of them.
     Elsewhere,
-    /// Its datagram goes from the address of the meter to that same address: whether it came or was sent isn't known.
+    /// Its datagram goes from the meter, or to it, and the other end is the meter itself or another one of its process: whether it came or was
+    /// sent isn't known.
     ToItself,
+    /// It is a turn, and of which of several meters isn't known.
+    UnnamedTurn,
 }
 
 /// Why a capture is no log of a meter.
@@ -30,9 +33,9 @@ pub enum Stray {
 pub enum LogError {
     /// The capture has this fault first. The records before it are the meter's.
     Fault(CaptureError),
-    /// This record is none of the meter's, and those before it are.
+    /// This record is of no meter of the process, and those before it are.
     Stray(Mark, Stray),
-    /// Memory was refused.
+    /// Memory was refused for an item.
     OutOfMemory,
 }
 
@@ -45,13 +48,13 @@ impl fmt::Display for LogError {
 /// What an audit found wrong, or why it found nothing out.
 #[derive(Clone, Copy, Debug, Error)]
 pub enum EvidenceError {
-    /// The capture is no log of a meter at its address.
+    /// The capture is no log of a meter at its site.
     NoLog(LogError),
     /// The log departs in this record from what the meter does, since that breaks this rule.
     Departs(Mark, Rule),
     /// The log is one of the meter, and its store holds another meter after it, whatever kills left.
     OtherStore,
-    /// Memory was refused. Nothing is said of the meter.
+    /// Memory was refused. Of the capture nothing is said but that it is a log, which begins with a start.
     OutOfMemory,
 }
 

@@ -1,106 +1,101 @@
 //! What a record says in the log of a meter.
 
-ghost use Rattle.std.specs.Prelude.{◌≡◌};
-ghost use Rattle.std.specs.Str.{bytes_eq};
-ghost use Rattle.std.specs.declared.net.socket_addr.SocketAddr.TheVariants.{V4, V6};
 ghost use Rattle.fw_capture.specs.View.{endpoint_of, told_in, told_of};
-ghost use Rattle.fw_evidence.specs.Entries.{entries_at, exchange_at, noted, same_end};
-ghost use Rattle.fw_evidence.specs.Private.{Gives, entries_in};
+ghost use Rattle.fw_evidence.specs.Entries.{entries_at, exchange_at, noted, some_turn, turn_at};
+ghost use Rattle.fw_evidence.specs.Private.{Gives};
 
 use crate::error::Stray;
+use crate::site::Site;
 use fw_audit::LogItem;
 use fw_capture::{Content, Note};
-use std::net::{SocketAddr, SocketAddrV4, SocketAddrV6};
+use std::net::SocketAddr;
 
-/// The item that a record is in the log of the meter at this address. There is none if it counts datagrams of strangers.
+/// The item that a record is in the log of the meter at this site. There is none if it counts datagrams of strangers, or is another meter's.
 ///
 /// # Errors
 ///
-/// Why it is none of that meter's.
+/// Why it is none of these meters'.
 pub(crate) fn item_in<'a>(
-    at: SocketAddr,
+    site: Site<'_>,
     content: Option<Content<'a>>,
 ) -> Result<Option<LogItem<'a>>, Stray>
-    ensures { Gives result (entries_at (endpoint_of at) (told_in content.entry)) }
+    ensures { Gives result (entries_at site.entry (told_in content.entry)) }
 {
     match content {
-        Some(content) => item_of(at, content),
+        Some(content) => item_of(site, content),
         None => Err(Stray::NoEntry),
     }
 }
 
 /// The item of a datagram or of a note.
-fn item_of<'a>(at: SocketAddr, content: Content<'a>) -> Result<Option<LogItem<'a>>, Stray>
-    ensures { Gives result (entries_at (endpoint_of at) (told_of content.entry)) }
+fn item_of<'a>(site: Site<'_>, content: Content<'a>) -> Result<Option<LogItem<'a>>, Stray>
+    ensures { Gives result (entries_at site.entry (told_of content.entry)) }
 {
     match content {
-        Content::Datagram { from, to, bytes } => exchanged(at, from, to, bytes),
-        Content::Note(note) => Ok(item_of_note(note)),
+        Content::Datagram { from, to, bytes } => exchanged(site, from, to, bytes),
+        Content::Note(note) => item_of_note(site, note),
     }
 }
 
 /// The item of a note.
-fn item_of_note<'a>(note: Note) -> Option<LogItem<'a>>
-    ensures { entries_in result ≡ noted note }
+fn item_of_note<'a>(site: Site<'_>, note: Note) -> Result<Option<LogItem<'a>>, Stray>
+    ensures { Gives result (noted site.entry note) }
 {
     match note {
-        Note::Start => Some(LogItem::Started),
-        Note::Turn => Some(LogItem::Turned),
-        Note::Strangers(_) => None,
+        Note::Start => Ok(Some(LogItem::Started)),
+        Note::Turn => some_turn(site),
+        Note::TurnAt(port) => turn_at(site, port),
+        Note::Strangers(_) => Ok(None),
     }
 }
 
-/// The item of a datagram: it came to the address of the meter, or was sent from there.
-fn exchanged<'a>(
-    at: SocketAddr,
-    from: SocketAddr,
-    to: SocketAddr,
-    bytes: &'a [u8],
-) -> Result<Option<LogItem<'a>>, Stray>
-    ensures { Gives result (exchange_at (endpoint_of at) (endpoint_of from) (endpoint_of to) bytes.now) }
+/// The item of a turn of a meter that isn't named.
+fn some_turn<'a>(site: Site<'_>) -> Result<Option<LogItem<'a>>, Stray>
+    ensures { Gives result (some_turn site.entry) }
 {
-    if is_same(from, at) {
-        if is_same(to, at) {
-            return Err(Stray::ToItself);
-        }
-        return Ok(Some(LogItem::Sent { to, bytes }));
+    if site.others.is_empty() {
+        Ok(Some(LogItem::Turned))
+    } else {
+        Err(Stray::UnnamedTurn)
     }
-    if is_same(to, at) {
-        return Ok(Some(LogItem::Came { from, bytes }));
+}
+
+/// The item of a turn of the meter that has this port.
+fn turn_at<'a>(site: Site<'_>, port: u16) -> Result<Option<LogItem<'a>>, Stray>
+    ensures { Gives result (turn_at site.entry port) }
+{
+    if site.at.port() == port {
+        return Ok(Some(LogItem::Turned));
+    }
+    if site.has_other_port(port) {
+        return Ok(None);
     }
     Err(Stray::Elsewhere)
 }
 
-/// Whether two addresses are of one family, and have one IP address and one port. More of an address no capture has.
-fn is_same(one: SocketAddr, other: SocketAddr) -> bool
-    ensures { result ≡ same_end (endpoint_of one) (endpoint_of other) }
+/// The item of a datagram: it came to the address of the meter, or was sent from there.
+fn exchanged<'a>(
+    site: Site<'_>,
+    from: SocketAddr,
+    to: SocketAddr,
+    bytes: &'a [u8],
+) -> Result<Option<LogItem<'a>>, Stray>
+    ensures { Gives result (exchange_at site.entry (endpoint_of from) (endpoint_of to) bytes.now) }
 {
-    match (one, other) {
-        (SocketAddr::V4(one), SocketAddr::V4(other)) => is_same_v4(one, other),
-        (SocketAddr::V6(one), SocketAddr::V6(other)) => is_same_v6(one, other),
-        (SocketAddr::V4(_), SocketAddr::V6(_)) | (SocketAddr::V6(_), SocketAddr::V4(_)) => false,
+    if site.is_own(from) {
+        if site.is_own(to) || site.is_other(to) {
+            return Err(Stray::ToItself);
+        }
+        return Ok(Some(LogItem::Sent { to, bytes }));
     }
-}
-
-/// Whether two addresses of IPv4 are.
-fn is_same_v4(one: SocketAddrV4, other: SocketAddrV4) -> bool
-    ensures { result ≡ same_end (endpoint_of (V4 one)) (endpoint_of (V4 other)) }
-{
-    let (octets, others) = (one.ip().octets(), other.ip().octets());
-    one.port() == other.port() && are_same(&octets, &others)
-}
-
-/// Whether two addresses of IPv6 are.
-fn is_same_v6(one: SocketAddrV6, other: SocketAddrV6) -> bool
-    ensures { result ≡ same_end (endpoint_of (V6 one)) (endpoint_of (V6 other)) }
-{
-    let (octets, others) = (one.ip().octets(), other.ip().octets());
-    one.port() == other.port() && are_same(&octets, &others)
-}
-
-/// Whether bytes are the same.
-fn are_same(bytes: &[u8], others: &[u8]) -> bool
-    ensures { result ≡ bytes_eq bytes.now others.now }
-{
-    bytes == others
+    if site.is_own(to) {
+        if site.is_other(from) {
+            return Err(Stray::ToItself);
+        }
+        return Ok(Some(LogItem::Came { from, bytes }));
+    }
+    if site.is_other(from) || site.is_other(to) {
+        return Ok(None);
+    }
+    Err(Stray::Elsewhere)
 }

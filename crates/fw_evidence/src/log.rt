@@ -1,17 +1,17 @@
 //! A capture, read as the log of a meter.
 
-ghost use Rattle.std.specs.Prelude.{◌≡◌, ◌++◌, [], IfErr, IfOk, OnOk, option_to_list};
+ghost use Rattle.std.specs.Prelude.{◌≡◌, ◌++◌, [], IfErr, IfOk, IsSome, OnErr, OnOk, option_to_list};
 ghost use Rattle.fw_audit.specs.Log.{log_of};
-ghost use Rattle.fw_capture.specs.View.{endpoint_of, told_in};
+ghost use Rattle.fw_capture.specs.View.{told_in};
 ghost use Rattle.fw_evidence.specs.Captures.{IsLogOf, IsNoLog};
 ghost use Rattle.fw_evidence.specs.Private.{IsStrayAt, Takes, marks_in};
 
 use crate::error::{LogError, Mark};
 use crate::item::item_in;
+use crate::site::Site;
 use fw_audit::LogItem;
 use fw_capture::{Content, Reader};
 use std::alloc::{AllocError, Global};
-use std::net::SocketAddr;
 
 /// The log of a meter, as a capture has it.
 #[derive(Drop)]
@@ -37,6 +37,7 @@ impl<'a> Log<'a> {
     fn add(&mut self, mark: Mark, item: Option<LogItem<'a>>) -> Result<(), AllocError>
         ensures items { OnOk result (self.new.items.items ≡ self.old.items.items ++ option_to_list item.entry) }
         ensures marks { OnOk result (self.new.marks.items ≡ self.old.marks.items ++ marks_in mark item.entry) }
+        ensures memory { OnErr result (IsSome item.entry) }
     {
         match item {
             Some(item) => {
@@ -48,22 +49,22 @@ impl<'a> Log<'a> {
         }
     }
 
-    /// Appends what this record says to the meter at this address. After an error it is unspecified.
+    /// Appends what this record says to the meter at this site. After an error it is unspecified.
     ///
     /// # Errors
     ///
-    /// `Stray` just if the record is none of the meter's, and otherwise `OutOfMemory` alone.
+    /// `Stray` just if the record is of no meter there, and otherwise `OutOfMemory` alone, if it says an item.
     fn take(
         &mut self,
-        at: SocketAddr,
+        site: Site<'_>,
         mark: Mark,
         content: Option<Content<'a>>,
     ) -> Result<(), LogError>
-        ensures taken { OnOk result (Takes (endpoint_of at) mark (told_in content.entry) self.old.items.items self.old.marks.items
+        ensures taken { OnOk result (Takes site.entry mark (told_in content.entry) self.old.items.items self.old.marks.items
             self.new.items.items self.new.marks.items) }
-        ensures stray { IfErr result (λ error. IsStrayAt (endpoint_of at) mark (told_in content.entry) error) }
+        ensures stray { IfErr result (λ error. IsStrayAt site.entry mark (told_in content.entry) error) }
     {
-        let item = match item_in(at, content) {
+        let item = match item_in(site, content) {
             Ok(item) => item,
             Err(stray) => return Err(LogError::Stray(mark, stray)),
         };
@@ -74,17 +75,17 @@ impl<'a> Log<'a> {
     }
 }
 
-/// The log of the meter at this address, if all records of this capture are that meter's: each start and each turn, each datagram that came to
-/// its address and each that was sent from there, in their order, with the record of each. A note that counts datagrams of strangers says
-/// nothing in it.
+/// The log of the meter at this site, if all records of this capture are of the meters there: each start, each turn of its own, each datagram
+/// that came to its address and each that was sent from there, in their order, with the record of each. A note that counts datagrams of
+/// strangers says nothing in it, nor does a record of another meter.
 ///
 /// # Errors
 ///
 /// - `Fault` or `Stray`, whichever comes first in the capture.
-/// - `OutOfMemory`.
-pub fn read_log<'a>(alloc: Global, at: SocketAddr, capture: &'a [u8]) -> Result<Log<'a>, LogError>
-    ensures log { IfOk result (λ log. IsLogOf (endpoint_of at) capture.now (log_of log.items.items) log.marks.items) }
-    ensures none { IfErr result (λ error. IsNoLog (endpoint_of at) capture.now error) }
+/// - `OutOfMemory`: memory was refused for an item. The records before it are those of meters there.
+pub fn read_log<'a>(alloc: Global, site: Site<'_>, capture: &'a [u8]) -> Result<Log<'a>, LogError>
+    ensures log { IfOk result (λ log. IsLogOf site.entry capture.now (log_of log.items.items) log.marks.items) }
+    ensures none { IfErr result (λ error. IsNoLog site.entry capture.now error) }
 {
     let mut reader = match Reader::new(capture) {
         Ok(reader) => reader,
@@ -102,7 +103,7 @@ pub fn read_log<'a>(alloc: Global, at: SocketAddr, capture: &'a [u8]) -> Result<
             number,
             offset: packet.offset,
         };
-        match log.take(at, mark, packet.content) {
+        match log.take(site, mark, packet.content) {
             Ok(()) => {}
             Err(error) => return Err(error),
         }

@@ -21,7 +21,7 @@ use std::alloc::Global;
 ///
 /// # Errors
 ///
-/// The bytes hold no meter, and this says why. `OutOfMemory` says nothing of them.
+/// The bytes hold no meter, and this says why. `OutOfMemory` says only that they are a store's, or that something is to be taken back.
 pub fn meter_at_rest(
     alloc: Global,
     store: Vec<u8>,

@@ -1,6 +1,6 @@
 //! Meters that were audited.
 
-ghost use Rattle.std.specs.Prelude.{◌≡◌, ◌↔◌, Contains, IfOk, IsTrue};
+ghost use Rattle.std.specs.Prelude.{◌≡◌, ◌≤◌, ◌↔◌, Contains, IfOk, IsTrue, OnErr, length};
 ghost use Rattle.fw_fleet_audit.specs.Rows.{HasSwitchedTo, audited_of, names_of};
 
 use fw_audit::Switched;
@@ -30,13 +30,14 @@ impl AuditedMeter {
     ///
     /// # Errors
     ///
-    /// `AllocError` if memory was refused.
+    /// `AllocError` if memory was refused, which is wanted only if there are images.
     pub fn new(
         alloc: Global,
         meter: MeterId,
         images: &[Switched],
     ) -> Result<AuditedMeter, AllocError>
-        ensures { IfOk result (λ made. made ≡ audited_of meter (names_of images.now)) }
+        ensures made { IfOk result (λ made. made ≡ audited_of meter (names_of images.now)) }
+        ensures memory { OnErr result (1 ≤ length images.now) }
     {
         let mut names = Vec::with_capacity(alloc, images.len())?;
         for image in images {

@@ -1,6 +1,7 @@
 -- Public vocabulary: the captures of daemons: what they get of a datagram, and the faults that end one.
 use Rattle.std.specs.Prelude.{◌≡◌, ◌⊎◌, ℕ, Bool, true, false, MatchBool, nat_lt, List, [], ◌∷◌, take, Option, Some, None, Err, if◌then◌else◌}
 use Rattle.fw_capture.specs.Spelling.{file_header, packet_bytes}
+use Rattle.std.specs.Net.Socket.{socket_port}
 use Rattle.std.specs.declared.net.socket_addr.SocketAddr.{SocketAddr}
 use Rattle.fw_capture.specs.declared.fault.CaptureFault.{CaptureFault}
 use Rattle.fw_capture.specs.declared.packet.Note.TheVariants as notes
@@ -54,16 +55,16 @@ abbrev pub count_after : ℕ → List Told → ℕ
 count_after count [] = count
 count_after count (told ∷ rest) = 0
 
--- the turn of a meter that verifies, where nothing came that it handles
-abbrev pub turn_told : Bool → Patience → List Told
-turn_told true Polls = note notes.Turn ∷ []
-turn_told true Waits = []
-turn_told false patience = []
+-- the turn of a meter at this address that verifies, where nothing came that it handles
+abbrev pub turn_told : Bool → SocketAddr → Patience → List Told
+turn_told true at Polls = note (notes.TurnAt (socket_port at)) ∷ []
+turn_told true at Waits = []
+turn_told false at patience = []
 
 -- what is recorded of a stranger's datagram, and the turn behind it; it is counted where it isn't recorded
 abbrev pub stranger_told : Bool → Bool → SocketAddr → Patience → SocketAddr → List ℕ → List Told
-stranger_told true has_turns at patience from bytes = datagram (endpoint_of from) (endpoint_of at) bytes ∷ turn_told has_turns patience
-stranger_told false has_turns at patience from bytes = turn_told has_turns patience
+stranger_told true has_turns at patience from bytes = datagram (endpoint_of from) (endpoint_of at) bytes ∷ turn_told has_turns at patience
+stranger_told false has_turns at patience from bytes = turn_told has_turns at patience
 
 abbrev pub stranger_count : Strangers → ℕ
 stranger_count s = if s.are_recorded then s.count else one_more s.count
@@ -71,7 +72,7 @@ stranger_count s = if s.are_recorded then s.count else one_more s.count
 -- What is recorded of what came: the datagram; a stranger's, where those are recorded; and the turn that a meter takes then which verifies.
 abbrev pub CapturesArrival : {S : Type 0} → (S → S → List ℕ → Type 0) → Strangers → Bool → SocketAddr → Patience → Option Arrival → List ℕ
     → Option S → Option S → Type 0
-CapturesArrival takes s has_turns at patience None buffer first last = CapturesAll takes s.count first last (turn_told has_turns patience)
+CapturesArrival takes s has_turns at patience None buffer first last = CapturesAll takes s.count first last (turn_told has_turns at patience)
 CapturesArrival takes s has_turns at patience (Some a) buffer first last =
     CapturesAll takes (if is_stranger s.known a.from then stranger_count s else s.count) first last
     (if is_stranger s.known a.from then stranger_told s.are_recorded has_turns at patience a.from (take a.count buffer)

@@ -90,13 +90,6 @@ IsOfStore BadHeader = Unit {0}
 IsOfStore BadImage = Unit {0}
 IsOfStore fault = ⊥
 
--- those of what a new store is made with, before it is made
-abbrev pub IsOfNewStore : Fault → Type 0
-IsOfNewStore BadSetup = Unit {0}
-IsOfNewStore FactoryFault = Unit {0}
-IsOfNewStore OutOfMemory = Unit {0}
-IsOfNewStore fault = ⊥
-
 -- the faults of the set-up of a meter in a file
 abbrev pub IsOfSetup : Fault → Type 0
 IsOfSetup BadSetup = Unit {0}

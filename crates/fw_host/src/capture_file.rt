@@ -5,13 +5,12 @@ ghost use Rattle.fw_disk.specs.declared.name.Name.TheVariants.{Main};
 ghost use Rattle.fw_capture.specs.Spelling.{file_header, packet_bytes};
 ghost use Rattle.fw_capture.specs.View.{told_of};
 ghost use Rattle.fw_capture.specs.Whole.{IsWholeTo};
-ghost use Rattle.fw_host.specs.Captures.{IsForeign, IsOfCapture, StartsCapture};
+ghost use Rattle.fw_host.specs.Captures.{IsForeign, StartsCapture};
 
 use crate::capture_making::new_capture;
-use crate::files::folder_of;
+use crate::error::CaptureFileError;
 use fw_capture::{Captured, Content, Note, WholeError, file_header, whole_len};
 use fw_disk::{Because, Cause, Name, SystemFolder, open};
-use fw_faults::Fault;
 use fw_recording::{Sink, write_header, write_record};
 use std::alloc::{AllocError, Global};
 use std::fs::File;
@@ -39,10 +38,8 @@ pub fn open_capture<R: Files<File = File> + Clock>(
     rt: &R,
     alloc: Global,
     path: &str,
-) -> Result<File, Because<Fault>>
-    ensures faults { IfErr result (λ b. IsOfCapture b.error) }
-{
-    let mut folder = folder_of(rt, path, Fault::CaptureFault)?;
+) -> Result<File, Because<CaptureFileError>> {
+    let mut folder = SystemFolder::of(rt, path).map_err(refused)?;
     let mut file = match open(&mut folder) {
         Ok(file) => file,
         Err(Cause::Missing) => made(alloc, &mut folder)?,
@@ -53,31 +50,33 @@ pub fn open_capture<R: Files<File = File> + Clock>(
 }
 
 /// The fault of a capture in FILE that the system refuses.
-fn refused(cause: Cause) -> Because<Fault>
-    ensures error { result.error ≡ Fault.CaptureFault }
+fn refused(cause: Cause) -> Because<CaptureFileError>
+    ensures error { result.error ≡ CaptureFileError.CaptureFault }
     ensures reason { result.reason ≡ Some (record { name = Main; cause = cause }) }
 {
-    Because::of(Fault::CaptureFault, cause.at(Name::Main))
+    Because::of(CaptureFileError::CaptureFault, cause.at(Name::Main))
 }
 
 /// The file of a new capture, which has the file header.
 fn made<R: Files<File = File>>(
     alloc: Global,
     folder: &mut SystemFolder<'_, R>,
-) -> Result<File, Because<Fault>>
-    ensures { IfErr result (λ b. b.error ≡ Fault.CaptureFault) }
+) -> Result<File, Because<CaptureFileError>>
+    ensures { IfErr result (λ b. b.error ≡ CaptureFileError.CaptureFault) }
 {
-    let header = file_header(alloc).map_err(|_| Fault::CaptureFault)?;
+    let header = file_header(alloc).map_err(|_| CaptureFileError::CaptureFault)?;
     match new_capture(folder, &header) {
         Ok(file) => Ok(file),
-        Err(reason) => Err(Because::of(Fault::CaptureFault, reason)),
+        Err(reason) => Err(Because::of(CaptureFileError::CaptureFault, reason)),
     }
 }
 
 /// Goes on with a capture: cuts off what is no whole record at its end, and appends the note of the start.
-fn go_on(alloc: Global, file: &mut File, nanoseconds: u64) -> Result<(), Because<Fault>>
-    ensures faults { IfErr result (λ b. IsOfCapture b.error) }
-{
+fn go_on(
+    alloc: Global,
+    file: &mut File,
+    nanoseconds: u64,
+) -> Result<(), Because<CaptureFileError>> {
     let mut buffer = [0; HEADER_SIZE];
     let count = read_front(file, &mut buffer).map_err(refused)?;
     keep_whole(alloc, file, &buffer[..count])?;
@@ -93,18 +92,17 @@ fn go_to_end(file: &mut File) -> Result<(), Cause> {
 }
 
 /// Cuts off what is no whole record at the end of the capture of a daemon, which has this front. Any other file is left as it is.
-fn keep_whole(alloc: Global, file: &File, front: &[u8]) -> Result<(), Fault>
-    ensures faults { IfErr result IsOfCapture }
-{
-    if !is_own(alloc, front).map_err(|_| Fault::CaptureFault)? {
+fn keep_whole(alloc: Global, file: &File, front: &[u8]) -> Result<(), CaptureFileError> {
+    if !is_own(alloc, front).map_err(|_| CaptureFileError::CaptureFault)? {
         return Ok(());
     }
-    let mut reader = BufReader::new(alloc, file).map_err(|_| Fault::CaptureFault)?;
+    let mut reader = BufReader::new(alloc, file).map_err(|_| CaptureFileError::CaptureFault)?;
     let len = kept_len(alloc, &mut reader)?;
-    let metadata = file.metadata().map_err(|_| Fault::CaptureFault)?;
+    let metadata = file.metadata().map_err(|_| CaptureFileError::CaptureFault)?;
     if len < metadata.len() {
-        file.set_len(len).map_err(|_| Fault::CaptureFault)?;
-        file.sync_all().map_err(|_| Fault::CaptureFault)?;
+        file.set_len(len)
+            .map_err(|_| CaptureFileError::CaptureFault)?;
+        file.sync_all().map_err(|_| CaptureFileError::CaptureFault)?;
     }
     Ok(())
 }
@@ -115,16 +113,15 @@ fn keep_whole(alloc: Global, file: &File, front: &[u8]) -> Result<(), Fault>
 ///
 /// `ForeignCapture`: something else stands behind its whole records than less than a record. `CaptureFault`: it can't be read, or memory was
 /// refused.
-fn kept_len<R: Read>(alloc: Global, reader: &mut R) -> Result<u64, Fault>
+fn kept_len<R: Read>(alloc: Global, reader: &mut R) -> Result<u64, CaptureFileError>
     ensures whole { (capture : List ℕ) → R.remaining reader.old ≡ Some capture → IfOk result (IsWholeTo capture) }
-    ensures foreign { (capture : List ℕ) → R.remaining reader.old ≡ Some capture → result ≡ Err Fault.ForeignCapture → IsForeign capture }
-    ensures faults { IfErr result IsOfCapture }
+    ensures foreign { (capture : List ℕ) → R.remaining reader.old ≡ Some capture → result ≡ Err CaptureFileError.ForeignCapture → IsForeign capture }
 {
     match whole_len(alloc, reader) {
         Ok(len) => Ok(len),
-        Err(WholeError::Header(_fault)) => Err(Fault::ForeignCapture),
-        Err(WholeError::Foreign(_offset)) => Err(Fault::ForeignCapture),
-        Err(WholeError::Input | WholeError::OutOfMemory) => Err(Fault::CaptureFault),
+        Err(WholeError::Header(_fault)) => Err(CaptureFileError::ForeignCapture),
+        Err(WholeError::Foreign(_offset)) => Err(CaptureFileError::ForeignCapture),
+        Err(WholeError::Input | WholeError::OutOfMemory) => Err(CaptureFileError::CaptureFault),
     }
 }
 
@@ -147,16 +144,20 @@ fn read_front(file: &File, buffer: &mut [u8]) -> Result<usize, Cause>
 ///
 /// - `CaptureFault`: the sink failed, or memory was refused, or it is the year 2106.
 /// - `ForeignCapture`: the front is another one than the file header. Nothing was put.
-fn start<S: Sink>(alloc: Global, sink: &mut S, nanoseconds: u64, front: &[u8]) -> Result<(), Fault>
+fn start<S: Sink>(
+    alloc: Global,
+    sink: &mut S,
+    nanoseconds: u64,
+    front: &[u8],
+) -> Result<(), CaptureFileError>
     ensures written { OnOk result (StartsCapture S.takes front.now nanoseconds sink.old sink.new) }
-    ensures foreign { result ≡ Err Fault.ForeignCapture → (front.now ≢ []) × (front.now ≢ file_header) }
-    ensures silent { result ≡ Err Fault.ForeignCapture → sink.new ≡ sink.old }
-    ensures faults { IfErr result IsOfCapture }
+    ensures foreign { result ≡ Err CaptureFileError.ForeignCapture → (front.now ≢ []) × (front.now ≢ file_header) }
+    ensures silent { result ≡ Err CaptureFileError.ForeignCapture → sink.new ≡ sink.old }
 {
     if front.is_empty() {
-        write_header(alloc, sink).map_err(|_| Fault::CaptureFault)?;
-    } else if !is_own(alloc, front).map_err(|_| Fault::CaptureFault)? {
-        return Err(Fault::ForeignCapture);
+        write_header(alloc, sink).map_err(|_| CaptureFileError::CaptureFault)?;
+    } else if !is_own(alloc, front).map_err(|_| CaptureFileError::CaptureFault)? {
+        return Err(CaptureFileError::ForeignCapture);
     }
     put_record(alloc, sink, nanoseconds, Content::Note(Note::Start))
 }
@@ -179,15 +180,15 @@ pub(crate) fn put_record<S: Sink>(
     sink: &mut S,
     nanoseconds: u64,
     content: Content<'_>,
-) -> Result<(), Fault>
+) -> Result<(), CaptureFileError>
     ensures written { OnOk result (S.takes sink.old sink.new (packet_bytes nanoseconds (told_of content.entry))) }
-    ensures faults { IfErr result (λ f. f ≡ Fault.CaptureFault) }
+    ensures faults { IfErr result (λ f. f ≡ CaptureFileError.CaptureFault) }
 {
     let captured = Captured {
         nanoseconds,
         content,
     };
-    write_record(alloc, sink, &captured).map_err(|_| Fault::CaptureFault)
+    write_record(alloc, sink, &captured).map_err(|_| CaptureFileError::CaptureFault)
 }
 
 /// The nanoseconds since the start of 1970, and 0 if the system has no time.

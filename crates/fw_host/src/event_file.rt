@@ -1,14 +1,14 @@
 //! The file of a head end's events.
 
 use crate::capture_file::now;
-use crate::event_making::{FRONT, FRONT_LEN, new_events};
+use crate::event_making::{FRONT, FRONT_LEN, new_events, try_new_events};
 use fw_disk::{Cause, Name, Reason, SystemFolder, open};
 use fw_events::{Event, ToldRows, event_line, fault_line};
 use fw_names::HeadId;
 use std::alloc::Global;
 use std::cell::Cell;
 use std::fs::File;
-use std::io::{BufRead, BufReader};
+use std::io::{BufRead, BufReader, Seek, SeekFrom};
 use std::os::unix::fs::FileExt;
 use std::rt::{Clock, Files};
 
@@ -28,8 +28,20 @@ pub struct EventFile {
 }
 
 impl EventFile {
-    /// The file at this path, and the rows of which it tells. It is made if nothing is there, and else gone on with behind its last whole line:
-    /// what a power cut left of another is cut off.
+    /// Whether there is a file of events at this path that can be gone on with, or one can be made. None is.
+    ///
+    /// # Errors
+    ///
+    /// Those of `open`.
+    pub fn check<R: Files<File = File>>(rt: &R, path: &str) -> Result<(), Reason> {
+        match check_at(rt, path) {
+            Ok(()) => Ok(()),
+            Err(cause) => Err(cause.at(Name::Main)),
+        }
+    }
+
+    /// The file at this path. It is made if nothing is there, and else gone on with behind its last whole line: what a power cut left of
+    /// another is cut off.
     ///
     /// # Errors
     ///
@@ -39,9 +51,9 @@ impl EventFile {
         alloc: Global,
         path: &str,
         head: HeadId,
-    ) -> Result<(EventFile, ToldRows), Reason> {
+    ) -> Result<EventFile, Reason> {
         match EventFile::open_at(rt, alloc, path, head) {
-            Ok(opened) => Ok(opened),
+            Ok(events) => Ok(events),
             Err(cause) => Err(cause.at(Name::Main)),
         }
     }
@@ -52,7 +64,7 @@ impl EventFile {
         alloc: Global,
         path: &str,
         head: HeadId,
-    ) -> Result<(EventFile, ToldRows), Cause> {
+    ) -> Result<EventFile, Cause> {
         let mut folder = SystemFolder::of(rt, path)?;
         let file = match open(&mut folder) {
             Ok(file) => file,
@@ -60,19 +72,28 @@ impl EventFile {
             Err(cause) => return Err(cause),
         };
         check_front(&file)?;
-        let mut told = ToldRows::none(alloc, head);
-        let len = take_lines(alloc, &file, &mut told)?;
+        let len = whole_len(alloc, &file)?;
         file.set_len(len)?;
         file.sync_all()?;
-        let events = EventFile {
+        Ok(EventFile {
             alloc,
             file,
             head,
             len: Cell::new(len),
             is_unsynced: Cell::new(false),
             time: Cell::new(now(rt)),
-        };
-        Ok((events, told))
+        })
+    }
+
+    /// The rows of which the file tells. It is read for that.
+    ///
+    /// # Errors
+    ///
+    /// Why it can't be read.
+    pub fn told_rows(&self) -> Result<ToldRows, Cause> {
+        let mut told = ToldRows::none(self.alloc, self.head);
+        take_lines(self.alloc, &self.file, &mut told)?;
+        Ok(told)
     }
 
     /// The events that follow happen now, by the clock of the system.
@@ -115,6 +136,16 @@ impl EventFile {
     }
 }
 
+/// Checks that a file of events is at this path, or can be made there.
+fn check_at<R: Files<File = File>>(rt: &R, path: &str) -> Result<(), Cause> {
+    let mut folder = SystemFolder::of(rt, path)?;
+    match open(&mut folder) {
+        Ok(file) => check_front(&file),
+        Err(Cause::Missing) => try_new_events(&mut folder),
+        Err(cause) => Err(cause),
+    }
+}
+
 /// Checks that a file has no byte, or begins as one of events, as far as it goes.
 fn check_front(file: &File) -> Result<(), Cause> {
     let mut buffer = [0; FRONT_LEN];
@@ -128,21 +159,49 @@ fn check_front(file: &File) -> Result<(), Cause> {
     }
 }
 
-/// Takes the whole lines of a file, and returns where the last of them ends.
-fn take_lines(alloc: Global, file: &File, told: &mut ToldRows) -> Result<u64, Cause> {
-    let mut reader = BufReader::new(alloc, file)?;
+/// Where the last whole line of a file ends.
+fn whole_len(alloc: Global, file: &File) -> Result<u64, Cause> {
+    let mut reader = BufReader::new(alloc, from_start(file)?)?;
     let mut line = Vec::new(alloc);
     let mut len: u64 = 0;
     for _ in 0..u64::MAX {
-        line.clear();
-        let count = reader.read_until(b'\n', &mut line)?;
-        if line.pop() != Some(b'\n') {
+        let count = read_line(&mut reader, &mut line)?;
+        if count == 0 {
             return Ok(len);
         }
         len = len.saturating_add(count as u64);
+    }
+    Ok(len)
+}
+
+/// Takes the whole lines of a file.
+fn take_lines(alloc: Global, file: &File, told: &mut ToldRows) -> Result<(), Cause> {
+    let mut reader = BufReader::new(alloc, from_start(file)?)?;
+    let mut line = Vec::new(alloc);
+    for _ in 0..u64::MAX {
+        if read_line(&mut reader, &mut line)? == 0 {
+            return Ok(());
+        }
         if let Ok(text) = str::from_utf8(&line) {
             told.take(alloc, text)?;
         }
     }
-    Ok(len)
+    Ok(())
+}
+
+/// A file that is read from its first byte on.
+fn from_start(mut file: &File) -> Result<&File, Cause> {
+    file.seek(SeekFrom::Start(0))?;
+    Ok(file)
+}
+
+/// Reads the next whole line, and returns how many bytes it has with its line feed, which it is left without: 0 if no whole line is left.
+fn read_line<R: BufRead>(reader: &mut R, line: &mut Vec<u8>) -> Result<usize, Cause> {
+    line.clear();
+    let count = reader.read_until(b'\n', line)?;
+    if line.pop() == Some(b'\n') {
+        Ok(count)
+    } else {
+        Ok(0)
+    }
 }

@@ -54,3 +54,14 @@ pub(crate) fn new_events<F: Folder>(folder: &mut F) -> Result<F::File, Cause>
         }
     }
 }
+
+/// Whether such a file can be made: it is begun as FILE.new, and taken away again.
+///
+/// # Errors
+///
+/// Those of `new_events`, but for `Exists`.
+pub(crate) fn try_new_events<F: Folder>(folder: &mut F) -> Result<(), Cause> {
+    let file = begin(folder, Name::New, &BegunEvents)?;
+    abandon(folder, Name::New, &file);
+    Ok(())
+}

@@ -10,7 +10,6 @@ ghost use Rattle.std.specs.Prelude.{
   [],
   ℕ,
   IfOk,
-  IfErr,
   IfSome,
   OnOk,
   IsTrue,
@@ -39,9 +38,9 @@ ghost use Rattle.fw_host.specs.Lists.{
 ghost use Rattle.fw_host.specs.Private.{HasWave};
 ghost use Rattle.fw_host.specs.Waves.{listed_in};
 
+use crate::error::ListError;
 use crate::wave_list::{Planned, WaveList};
 use csv::{ByteRecord, Error, ReaderBuilder};
-use fw_faults::Fault;
 use fw_names::MeterId;
 use fw_rollout::Listed;
 use std::alloc::Global;
@@ -62,10 +61,9 @@ pub fn read_list<N: Net>(
     alloc: Global,
     text: &[u8],
     own: SocketAddr,
-) -> Result<WaveList, Fault>
+) -> Result<WaveList, ListError>
     ensures ok { IfOk result (λ list. SpellsList own text.now list) }
-    ensures bad_list { (line : ℕ) → result ≡ Err (Fault.BadList line) → IsNoList own text.now }
-    ensures faults { IfErr result (λ f. (f ≡ Fault.OutOfMemory) ⊎ ((line : ℕ) × (f ≡ Fault.BadList line))) }
+    ensures bad_list { (line : ℕ) → result ≡ Err (ListError.BadList line) → IsNoList own text.now }
 {
     let mut reader = ReaderBuilder::new()
         .has_headers(false)
@@ -81,15 +79,15 @@ pub fn read_list<N: Net>(
         }
     }
     // There is no memory for that number of meters.
-    Err(Fault::OutOfMemory)
+    Err(ListError::OutOfMemory)
 }
 
 /// Why bytes in memory aren't read further. Only out of memory stops that, since a record may have any number of fields.
-fn stopped(_error: &Error) -> Fault
+fn stopped(_error: &Error) -> ListError
     requires { stops_reader (error_kind _error.now) ≡ true }
-    ensures { result ≡ Fault.OutOfMemory }
+    ensures { result ≡ ListError.OutOfMemory }
 {
-    Fault::OutOfMemory
+    ListError::OutOfMemory
 }
 
 /// Adds the meter of a record of this text.
@@ -99,19 +97,18 @@ fn take<N: Net>(
     text: &[u8],
     meters: &mut WaveList,
     fields: &ByteRecord,
-) -> Result<(), Fault>
+) -> Result<(), ListError>
     ensures once { OnOk result (IsList (listed_in meters.new)) }
     ensures taken { OnOk result ((planned : Planned) × SpellsPlanned own (fields_of fields.now) planned
         × (meters.new ≡ meters.old ++ planned ∷ [])) }
-    ensures bad_list { (line : ℕ) → result ≡ Err (Fault.BadList line) → NamesHost (fields_of fields.now)
+    ensures bad_list { (line : ℕ) → result ≡ Err (ListError.BadList line) → NamesHost (fields_of fields.now)
         ⊎ ((planned : Planned) → SpellsPlanned own (fields_of fields.now) planned → ¬ IsList (listed_in (meters.old ++ planned ∷ []))) }
 
     // Memory is wanted for a meter alone.
-    ensures memory { result ≡ Err Fault.OutOfMemory → (planned : Planned) × SpellsPlanned own (fields_of fields.now) planned }
-    ensures faults { IfErr result (λ f. (f ≡ Fault.OutOfMemory) ⊎ ((line : ℕ) × (f ≡ Fault.BadList line))) }
+    ensures memory { result ≡ Err ListError.OutOfMemory → (planned : Planned) × SpellsPlanned own (fields_of fields.now) planned }
 {
     let Some(planned) = planned(net, own, fields) else {
-        return Err(Fault::BadList(line_of(text, fields)));
+        return Err(ListError::BadList(line_of(text, fields)));
     };
     let is_new = meters.add(planned)?;
     // For its clause alone: each number and each address stands once.
@@ -119,7 +116,7 @@ fn take<N: Net>(
     if is_new {
         Ok(())
     } else {
-        Err(Fault::BadList(line_of(text, fields)))
+        Err(ListError::BadList(line_of(text, fields)))
     }
 }
 

@@ -7,8 +7,9 @@ ghost use Rattle.fw_image.specs.Meter.{restarted};
 ghost use Rattle.fw_image.specs.Stored.{Opens, Refused};
 ghost use Rattle.fw_image.specs.declared.error.OpenError.{OpenError};
 ghost use Rattle.fw_faults.specs.Faults.{fault_of_file, fault_of_opening};
-ghost use Rattle.fw_host.specs.Meters.{IsOfNewStore, IsOfStore, default_factory};
+ghost use Rattle.fw_host.specs.Meters.{IsOfStore, default_factory};
 
+use crate::error::NewStoreError;
 use crate::files::{folder_of, is_missing};
 use fw_disk::{Because, Folder};
 use fw_faults::{Fault, Reads, read_input};
@@ -53,17 +54,16 @@ impl NewStore {
         rt: &F,
         alloc: Global,
         fresh: &NewMeter<'_>,
-    ) -> Result<NewStore, Fault>
+    ) -> Result<NewStore, NewStoreError>
         ensures numbers { IfOk result (λ new. (new.block_size ≡ fresh.now.block_size) × (new.capacity ≡ fresh.now.capacity)) }
         ensures factory { fresh.now.factory_file ≡ None → IfOk result (λ new. new.factory.items ≡ default_factory) }
-        ensures bad_setup { fresh.now.factory_file ≡ None → result ≡ Err Fault.BadSetup
+        ensures bad_setup { fresh.now.factory_file ≡ None → result ≡ Err NewStoreError.BadSetup
             → ¬ IsSetup Two fresh.now.block_size fresh.now.capacity default_factory }
-        ensures faults { IfErr result IsOfNewStore }
     {
         let factory = factory_of(rt, alloc, fresh)?;
         match NewStore::of(fresh.block_size, fresh.capacity, factory) {
             Some(new) => Ok(new),
-            None => Err(Fault::BadSetup),
+            None => Err(NewStoreError::BadSetup),
         }
     }
 
@@ -191,10 +191,9 @@ fn factory_of<F: Files<File = File>>(
     rt: &F,
     alloc: Global,
     fresh: &NewMeter<'_>,
-) -> Result<Vec<u8>, Fault>
+) -> Result<Vec<u8>, NewStoreError>
     ensures default { fresh.now.factory_file ≡ None → IfOk result (λ factory. factory.items ≡ default_factory) }
-    ensures bad_setup { fresh.now.factory_file ≡ None → result ≢ Err Fault.BadSetup }
-    ensures faults { IfErr result IsOfNewStore }
+    ensures bad_setup { fresh.now.factory_file ≡ None → result ≢ Err NewStoreError.BadSetup }
 {
     match fresh.factory_file {
         None => Ok(Vec::from_slice(alloc, DEFAULT_FACTORY)?),
@@ -203,16 +202,18 @@ fn factory_of<F: Files<File = File>>(
 }
 
 /// All bytes of the file of a factory image.
-fn bytes_of_file<F: Files<File = File>>(rt: &F, alloc: Global, path: &str) -> Result<Vec<u8>, Fault>
-    ensures faults { IfErr result IsOfNewStore }
-{
-    let mut file = File::open(rt, path).map_err(|_| Fault::FactoryFault)?;
+fn bytes_of_file<F: Files<File = File>>(
+    rt: &F,
+    alloc: Global,
+    path: &str,
+) -> Result<Vec<u8>, NewStoreError> {
+    let mut file = File::open(rt, path).map_err(|_| NewStoreError::FactoryFault)?;
     let mut reads = Reads::none();
     match read_input(alloc, &mut file, &mut reads) {
         Ok(bytes) => Ok(bytes),
         // No meter takes an image of more than 64 MiB.
-        Err(Fault::TooMuchInput) => Err(Fault::BadSetup),
-        Err(Fault::OutOfMemory) => Err(Fault::OutOfMemory),
-        Err(_) => Err(Fault::FactoryFault),
+        Err(Fault::TooMuchInput) => Err(NewStoreError::BadSetup),
+        Err(Fault::OutOfMemory) => Err(NewStoreError::OutOfMemory),
+        Err(_) => Err(NewStoreError::FactoryFault),
     }
 }

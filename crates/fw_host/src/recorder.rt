@@ -110,17 +110,18 @@ impl<'a, C: Clock, S: Sink + Drop> Recorder<'a, C, S> {
         self.put_one(content)
     }
 
-    /// Puts the note of the turn that follows where nothing came, or a stranger's datagram did, and it isn't waited.
+    /// Puts the note of the turn of this meter that follows where nothing came, or a stranger's datagram did, and it isn't waited.
     fn put_turn(&mut self, patience: Patience) -> Result<(), Closed>
         ensures put { OnOk result (CapturesAll S.takes self.old.strangers.now.count self.old.sink self.new.sink
-            (turn_told self.old.has_turns patience)) }
+            (turn_told self.old.has_turns self.old.at patience)) }
         ensures count { OnOk result (self.new.strangers.now
-            ≡ record self.old.strangers.now { count = count_after self.old.strangers.now.count (turn_told self.old.has_turns patience) }) }
+            ≡ record self.old.strangers.now { count = count_after self.old.strangers.now.count (turn_told self.old.has_turns self.old.at patience) }) }
         ensures open { OnOk result (self.new.failed ≡ self.old.failed) }
         ensures failed { OnErr result (IsTrue self.new.failed) }
     {
         if self.has_turns && patience == Patience::Polls {
-            self.put(Content::Note(Note::Turn))
+            let port = self.at.port();
+            self.put(Content::Note(Note::TurnAt(port)))
         } else {
             Ok(())
         }

@@ -1,6 +1,6 @@
 -- Public vocabulary: the cells of a report, one a column, and a report as a table and as comma-separated values (RFC 4180). No cell has a comma,
 -- a quote or a line feed.
-use Rattle.std.specs.Prelude.{ℕ, ◌-◌, Bool, true, false, List, [], ◌∷◌, ◌++◌, flat_map, length, replicate, Option, Some, None, is_some, codes, decimal, if◌then◌else◌}
+use Rattle.std.specs.Prelude.{ℕ, ◌-◌, Bool, true, false, List, [], ◌∷◌, ◌++◌, flat_map, length, nat_eq, replicate, take, Option, Some, None, is_some, codes, decimal, if◌then◌else◌}
 use Rattle.hex.specs.Hex.{encode_lower}
 use Rattle.fw_names.specs.Name.{Name}
 use Rattle.fw_survey.specs.declared.answer.Answer.{Answer}
@@ -52,6 +52,10 @@ release_cell a = name_cell (λ name. decimal name.release) [] (name_in a)
 abbrev pub digest_cell : Option Answer → List ℕ
 digest_cell a = name_cell (λ name. encode_lower name.digest) [] (name_in a)
 
+-- the first digits of the digest, which tell images of a fleet apart
+abbrev pub digest_front_cell : Option Answer → List ℕ
+digest_front_cell a = name_cell (λ name. encode_lower (take 4 name.digest)) [] (name_in a)
+
 abbrev pub number_cell_if : Option ℕ → List ℕ
 number_cell_if None = []
 number_cell_if (Some n) = decimal n
@@ -75,6 +79,7 @@ cell_of column.Head row offer = head_cell row.active.answer
 cell_of column.Campaign row offer = campaign_cell row.active.answer
 cell_of column.Release row offer = release_cell row.active.answer
 cell_of column.Digest row offer = digest_cell row.active.answer
+cell_of column.DigestFront row offer = digest_front_cell row.active.answer
 cell_of column.Status row offer = answer_cell row.status.answer
 cell_of column.Enabled row offer = answer_cell row.enabled.answer
 cell_of column.BlockSize row offer = answer_cell row.block_size.answer
@@ -108,30 +113,45 @@ csv_of rows offer = csv_headings ++ flat_map (λ (row : Row). csv_line offer row
 
 -- how wide a column is, of those that a table has: the last one is as wide as its cells
 abbrev pub width_of : Column → ℕ
-width_of column.State = 8
-width_of column.Status = 10
-width_of column.Enabled = 10
 width_of column.Offer = 0
-width_of column.Digest = 66
-width_of c = 12
+width_of column.Enabled = 3
+width_of column.Head = 4
+width_of column.Campaign = 4
+width_of column.Status = 4
+width_of column.Meter = 5
+width_of column.BlockSize = 5
+width_of column.State = 6
+width_of column.Release = 7
+width_of column.RoundTrip = 7
+width_of column.DigestFront = 8
+width_of column.Digest = 64
 
--- a cell, and spaces to the end of its column
+-- what stands behind a cell that is empty, or isn't
+abbrev pub stroke_if : Bool → List ℕ
+stroke_if true = codes "-"
+stroke_if false = []
+
+-- a cell, with a stroke if it is empty
+abbrev pub shown : List ℕ → List ℕ
+shown cell = cell ++ stroke_if (nat_eq (length cell) 0)
+
+-- a cell, spaces to the end of its column, and one more
 abbrev pub padded : ℕ → List ℕ → List ℕ
-padded width cell = cell ++ replicate (width - length cell) 32
+padded width cell = cell ++ (replicate (width - length cell) 32 ++ codes " ")
 
 abbrev pub table_headings : List ℕ
-table_headings =
-    codes "meter       state   head end    campaign    release     status    enabled   block size  trip (us)   offer\n"
+table_headings = codes "meter state  head camp release digest   stat on  block trip us offer\n"
 
+-- the columns before the last
 abbrev pub table_columns : List Column
 table_columns =
-    column.Meter ∷ column.State ∷ column.Head ∷ column.Campaign ∷ column.Release ∷ column.Status ∷ column.Enabled ∷ column.BlockSize ∷ column.RoundTrip ∷ column.Offer ∷ []
+    column.Meter ∷ column.State ∷ column.Head ∷ column.Campaign ∷ column.Release ∷ column.DigestFront ∷ column.Status ∷ column.Enabled ∷ column.BlockSize ∷ column.RoundTrip ∷ []
 
 abbrev pub table_cells : List Column → Row → Option Offer → List ℕ
-table_cells columns row offer = flat_map (λ (c : Column). padded (width_of c) (cell_of c row offer)) columns
+table_cells columns row offer = flat_map (λ (c : Column). padded (width_of c) (shown (cell_of c row offer))) columns
 
 abbrev pub table_line : Option Offer → Row → List ℕ
-table_line offer row = table_cells table_columns row offer ++ codes "\n"
+table_line offer row = table_cells table_columns row offer ++ (shown (cell_of column.Offer row offer) ++ codes "\n")
 
 abbrev pub table_of : List Row → Option Offer → List ℕ
 table_of rows offer = table_headings ++ flat_map (λ (row : Row). table_line offer row) rows

@@ -8,6 +8,7 @@ ghost use Rattle.fw_inventory.specs.Cells.{
   campaign_cell,
   cell_of,
   digest_cell,
+  digest_front_cell,
   head_cell,
   number_cell_if,
   offer_cell,
@@ -21,6 +22,9 @@ use crate::verdict::{Offer, Verdict, name_in, verdict_of};
 use fw_names::CampaignId;
 use fw_survey::{Answer, Row};
 use std::alloc::{AllocError, Global};
+
+/// The bytes of a digest that a table shows.
+const DIGEST_FRONT: usize = 4;
 
 /// A column of a report.
 #[derive(Clone, Copy)]
@@ -37,6 +41,8 @@ pub(crate) enum Column {
     Release,
     /// Its SHA-256.
     Digest,
+    /// The first digits of that, which tell images of a fleet apart.
+    DigestFront,
     /// image_transfer_status.
     Status,
     /// image_transfer_enabled.
@@ -66,6 +72,7 @@ pub(crate) fn append_cell(
         Column::Campaign => append_campaign(text, row.active.answer),
         Column::Release => append_release(text, row.active.answer),
         Column::Digest => append_digest(alloc, text, row.active.answer),
+        Column::DigestFront => append_digest_front(alloc, text, row.active.answer),
         Column::Status => append_answer(text, row.status.answer),
         Column::Enabled => append_answer(text, row.enabled.answer),
         Column::BlockSize => append_answer(text, row.block_size.answer),
@@ -139,14 +146,28 @@ fn append_digest(alloc: Global, text: &mut String, answer: Option<Answer>) -> Re
     ensures { OnOk result (string_bytes text.new ≡ string_bytes text.old ++ digest_cell answer) }
 {
     match name_in(&answer) {
-        Some(name) => append_hexadecimal(alloc, text, name.digest),
+        Some(name) => append_hexadecimal(alloc, text, &name.digest),
+        None => Ok(()),
+    }
+}
+
+/// Appends the first digits of the digest of the image that a meter runs, if it is known.
+fn append_digest_front(
+    alloc: Global,
+    text: &mut String,
+    answer: Option<Answer>,
+) -> Result<(), AllocError>
+    ensures { OnOk result (string_bytes text.new ≡ string_bytes text.old ++ digest_front_cell answer) }
+{
+    match name_in(&answer) {
+        Some(name) => append_hexadecimal(alloc, text, &name.digest[..DIGEST_FRONT]),
         None => Ok(()),
     }
 }
 
 /// Appends bytes as hexadecimal digits.
-fn append_hexadecimal(alloc: Global, text: &mut String, bytes: [u8; 32]) -> Result<(), AllocError>
-    ensures { OnOk result (string_bytes text.new ≡ string_bytes text.old ++ encode_lower bytes) }
+fn append_hexadecimal(alloc: Global, text: &mut String, bytes: &[u8]) -> Result<(), AllocError>
+    ensures { OnOk result (string_bytes text.new ≡ string_bytes text.old ++ encode_lower bytes.now) }
 {
     let digits = hex::encode(alloc, bytes)?;
     write!(text, "{digits}")

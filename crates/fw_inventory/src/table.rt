@@ -1,29 +1,28 @@
 //! A report as a table, with columns of equal width.
 
 ghost use Rattle.std.specs.Prelude.{◌≡◌, ◌++◌, flat_map, replicate, OnOk, string_bytes};
-ghost use Rattle.fw_inventory.specs.Cells.{cell_of, padded, table_cells, table_line, table_of, width_of};
+ghost use Rattle.fw_inventory.specs.Cells.{cell_of, padded, shown, stroke_if, table_cells, table_line, table_of, width_of};
 
 use crate::cell::{Column, append_cell};
 use crate::verdict::Offer;
 use fw_survey::Row;
 use std::alloc::{AllocError, Global};
 
-/// The headings.
-const HEADINGS: &str =
-    "meter       state   head end    campaign    release     status    enabled   block size  trip (us)   offer\n";
+/// The headings. With ordinary values a line has 80 characters at most.
+const HEADINGS: &str = "meter state  head camp release digest   stat on  block trip us offer\n";
 
-/// The columns.
+/// The columns before the last.
 const COLUMNS: [Column; 10] = [
     Column::Meter,
     Column::State,
     Column::Head,
     Column::Campaign,
     Column::Release,
+    Column::DigestFront,
     Column::Status,
     Column::Enabled,
     Column::BlockSize,
     Column::RoundTrip,
-    Column::Offer,
 ];
 
 /// Appends the headings, and a line for each meter.
@@ -64,6 +63,7 @@ fn append_line(
     ensures { OnOk result (string_bytes text.new ≡ string_bytes text.old ++ table_line offer row.now) }
 {
     append_cells(alloc, text, &COLUMNS, row, offer)?;
+    append_shown(alloc, text, Column::Offer, row, offer)?;
     text.push_str("\n")
 }
 
@@ -83,7 +83,7 @@ fn append_cells(
     Ok(())
 }
 
-/// Appends a cell of a meter, and spaces to the end of its column.
+/// Appends a cell of a meter, spaces to the end of its column, and one more.
 fn append_padded(
     alloc: Global,
     text: &mut String,
@@ -91,12 +91,36 @@ fn append_padded(
     row: &Row,
     offer: Option<Offer>,
 ) -> Result<(), AllocError>
-    ensures { OnOk result (string_bytes text.new ≡ string_bytes text.old ++ padded (width_of column) (cell_of column row.now offer)) }
+    ensures { OnOk result (string_bytes text.new ≡ string_bytes text.old ++ padded (width_of column) (shown (cell_of column row.now offer))) }
+{
+    let start = text.len();
+    append_shown(alloc, text, column, row, offer)?;
+    let filled = text.len() - start;
+    append_spaces(text, width_of(column).saturating_sub(filled))?;
+    text.push_str(" ")
+}
+
+/// Appends a cell of a meter, with a stroke if it is empty.
+fn append_shown(
+    alloc: Global,
+    text: &mut String,
+    column: Column,
+    row: &Row,
+    offer: Option<Offer>,
+) -> Result<(), AllocError>
+    ensures { OnOk result (string_bytes text.new ≡ string_bytes text.old ++ shown (cell_of column row.now offer)) }
 {
     let start = text.len();
     append_cell(alloc, text, column, row, offer)?;
     let filled = text.len() - start;
-    append_spaces(text, width_of(column).saturating_sub(filled))
+    text.push_str(stroke_if(filled == 0))
+}
+
+/// What stands behind a cell that is empty, or isn't.
+fn stroke_if(empty: bool) -> &'static str
+    ensures { result.now ≡ stroke_if empty }
+{
+    if empty { "-" } else { "" }
 }
 
 /// How wide a column is: the last one is as wide as its cells.
@@ -104,16 +128,14 @@ fn width_of(column: Column) -> usize
     ensures { result ≡ width_of column }
 {
     match column {
-        Column::State => 8,
-        Column::Status | Column::Enabled => 10,
         Column::Offer => 0,
-        Column::Digest => 66,
-        Column::Meter
-        | Column::Head
-        | Column::Campaign
-        | Column::Release
-        | Column::BlockSize
-        | Column::RoundTrip => 12,
+        Column::Enabled => 3,
+        Column::Head | Column::Campaign | Column::Status => 4,
+        Column::Meter | Column::BlockSize => 5,
+        Column::State => 6,
+        Column::Release | Column::RoundTrip => 7,
+        Column::DigestFront => 8,
+        Column::Digest => 64,
     }
 }
 

@@ -1,12 +1,12 @@
 //! Fates as they are given on a command line, a letter each.
 
-ghost use Rattle.std.specs.Prelude.{◌≡◌, ◌⊎◌, ◌↔◌, IsTrue, Some, IfOk, IfErr};
+ghost use Rattle.std.specs.Prelude.{◌≡◌, ◌↔◌, IsTrue, Some, IfOk};
 ghost use Rattle.std.specs.List.{list_all};
 ghost use Rattle.fw_air.specs.declared.fates.Fate.{Fate};
 ghost use Rattle.fw_script.specs.Fates.{SpellsFates, SpellsSome, letter_of, is_letter};
 
+use crate::error::FatesError;
 use fw_air::{Fate, MAX_FATES};
-use fw_faults::Fault;
 use std::alloc::Global;
 
 /// The fates that these letters spell: `d` a datagram comes, `x` it is lost, `t` it comes twice, `l` it comes late. Where memory is
@@ -15,20 +15,19 @@ use std::alloc::Global;
 /// # Errors
 ///
 /// `BadFates` if they aren't 1 to 4,096 of these letters, and `OutOfMemory`.
-pub fn read_fates(alloc: Global, letters: &[u8]) -> Result<Vec<Fate>, Fault>
+pub fn read_fates(alloc: Global, letters: &[u8]) -> Result<Vec<Fate>, FatesError>
     ensures ok { IfOk result (λ fates. SpellsFates letters.now fates.items) }
-    ensures bad_fates { result ≡ Err Fault.BadFates → ¬ SpellsSome letters.now }
-    ensures memory { result ≡ Err Fault.OutOfMemory → SpellsSome letters.now }
-    ensures faults { IfErr result (λ f. (f ≡ Fault.BadFates) ⊎ (f ≡ Fault.OutOfMemory)) }
+    ensures bad_fates { result ≡ Err FatesError.BadFates → ¬ SpellsSome letters.now }
+    ensures memory { result ≡ Err FatesError.OutOfMemory → SpellsSome letters.now }
 {
     if !are_fates(letters) {
-        return Err(Fault::BadFates);
+        return Err(FatesError::BadFates);
     }
     let mut fates = Vec::with_capacity(alloc, letters.len())?;
     for letter in letters {
         match fate_of(*letter) {
             Some(fate) => fates.push(fate)?,
-            None => return Err(Fault::BadFates),
+            None => return Err(FatesError::BadFates),
         }
     }
     Ok(fates)

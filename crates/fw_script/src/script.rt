@@ -1,13 +1,12 @@
 //! Scripts: a setup, and what happens in the world.
 
-ghost use Rattle.std.specs.Prelude.{◌≡◌, false, ◌≤◌, ◌⊎◌, length, ℕ, Some, None, IfOk, IfErr, if◌then◌else◌, OnErr, IsSome};
+ghost use Rattle.std.specs.Prelude.{◌≡◌, false, ℕ, Some, None, IfOk, if◌then◌else◌, OnErr, IsSome};
 ghost use Rattle.fw_script.specs.Script.{is_skipped, item_of, with_line, with_item, script_of, SpellsScript, IsBadLine, BeginsScript};
 ghost use Rattle.fw_text.specs.Words.{words_of};
-ghost use Rattle.fw_faults.specs.Reading.{max_input};
 ghost use Rattle.fw_script.specs.Private.{item_read, names_setup};
 
+use crate::error::ScriptError;
 use crate::item::{Item, item_of};
-use fw_faults::Fault;
 use fw_text::first_line;
 use fw_text::words::{first_word, is};
 use fw_world::{Event, Setup};
@@ -26,12 +25,10 @@ pub struct Script {
 ///
 /// - `BadLine`: the lines before this one begin a script, and this one can't go on with it.
 /// - `OutOfMemory`.
-pub fn read_script(alloc: Global, input: &[u8]) -> Result<Script, Fault>
-    requires size { length input.now ≤ max_input }
+pub fn read_script(alloc: Global, input: &[u8]) -> Result<Script, ScriptError>
     ensures ok { IfOk result (λ script. SpellsScript input.now (script_of script.setup script.events.items)) }
-    ensures bad_line { (number : ℕ) → result ≡ Err (Fault.BadLine number) → IsBadLine input.now number }
-    ensures memory { result ≡ Err Fault.OutOfMemory → BeginsScript input.now }
-    ensures faults { IfErr result (λ f. (f ≡ Fault.OutOfMemory) ⊎ ((number : ℕ) × (f ≡ Fault.BadLine number))) }
+    ensures bad_line { (number : ℕ) → result ≡ Err (ScriptError.BadLine number) → IsBadLine input.now number }
+    ensures memory { result ≡ Err ScriptError.OutOfMemory → BeginsScript input.now }
 {
     let mut script = Script {
         setup: Setup {
@@ -44,7 +41,7 @@ pub fn read_script(alloc: Global, input: &[u8]) -> Result<Script, Fault>
     let mut number = 1u64;
     while let Some((line, after)) = first_line(rest) {
         if !script.add_line(alloc, line)? {
-            return Err(Fault::BadLine(number));
+            return Err(ScriptError::BadLine(number));
         }
         rest = after;
         number += 1;

@@ -1,11 +1,12 @@
 //! What an opening makes of the bytes of a store, in memory.
 
-ghost use Rattle.std.specs.Prelude.{◌≡◌, ◌+◌, ◌≤◌, ◌↔◌, false, length, take, IfOk, IsErrOf, IsTrue, OnOk};
+ghost use Rattle.std.specs.Prelude.{◌≡◌, ◌+◌, ◌≤◌, ◌↔◌, false, length, take, IfOk, IsErrOf, IsTrue, OnErr, OnOk};
 ghost use Rattle.fw_undo.specs.Write.{IsWrite};
 ghost use Rattle.fw_undo.specs.Cut.{IsTornIn, Mends, before_of};
 ghost use Rattle.fw_cuts.specs.Rest.{IsRecovered};
 ghost use Rattle.fw_store.specs.Beside.{IsUndoFile};
 ghost use Rattle.fw_store.specs.Device.{splice};
+ghost use Rattle.fw_stored.specs.Stored.{IsTornBy};
 
 use crate::error::RecoveryError;
 use fw_undo::{HeaderWrite, MAX_JOURNAL_SIZE, MAX_PART_SIZE};
@@ -23,12 +24,13 @@ const MARK: [u8; MARK_SIZE] = *b"FWU1";
 /// # Errors
 ///
 /// `ForeignUndo` just if the bytes beside the store are none that an undo file has, whole or cut by a power cut, and otherwise
-/// `OutOfMemory` alone.
+/// `OutOfMemory` alone, and that only if something is taken back.
 pub fn recovered(store: Vec<u8>, undo: &[u8]) -> Result<Vec<u8>, RecoveryError>
     ensures recovered { IfOk result (λ made. IsRecovered undo.now store.items made.items) }
     ensures own { OnOk result (IsUndoFile undo.now) }
     ensures foreign { IsErrOf result RecoveryError.ForeignUndo → ¬ IsUndoFile undo.now }
     ensures memory { IsErrOf result RecoveryError.OutOfMemory → IsUndoFile undo.now }
+    ensures torn { IsErrOf result RecoveryError.OutOfMemory → IsTornBy undo.now store.items }
 {
     if !is_undo_file(undo) {
         return Err(RecoveryError::ForeignUndo);
@@ -60,7 +62,8 @@ fn begins_as(bytes: &[u8], form: &[u8; MARK_SIZE]) -> bool
 /// Puts back the bytes of before where a header write was cut.
 fn mended(store: Vec<u8>, write: &HeaderWrite<'_>) -> Result<Vec<u8>, AllocError>
     requires { IsWrite write.now }
-    ensures { IfOk result (λ made. Mends write.now store.items made.items) }
+    ensures mends { IfOk result (λ made. Mends write.now store.items made.items) }
+    ensures memory { OnErr result (IsTornIn write.now store.items) }
 {
     if !is_torn(&store, write) {
         return Ok(store);

@@ -34,11 +34,12 @@ are out at once. An answer is what comes from the meter's address in LIST with t
 that was asked there. It is asked and answered without keys, so a meter with --keys is silent.
 
 Standard output gets a row for each meter, in the order of LIST: as a table, as comma-separated values with
-a header line, which have the SHA-256 too, or as an object of JSON on one line. A meter that answered nothing
-is `silent`, one that answered all `heard`, and any other `partly`. `code N` stands for an answer that
-refuses the question, with the standard's code, and `other` for a value of another type than the attribute
-has, or for no name of an image. The round trip is that of the first answer, in microseconds since its
-question was asked last.
+a header line, or as an object of JSON on one line. The table has the first 8 digits of the SHA-256 alone,
+image_transfer_status below `stat`, image_transfer_enabled below `on`, and `-` for what isn't known. A meter
+that answered nothing is `silent`, one that answered all `heard`, and any other `partly`. `code N` stands for
+an answer that refuses the question, with the standard's code, and `other` for a value of another type than
+the attribute has, or for no name of an image. The round trip is that of the first answer, in microseconds
+since its question was asked last.
 
 With --image FILE and --release R the last column says what the meter would do with that image, by what it
 answered:
@@ -62,7 +63,7 @@ Example, in two terminals, what the meter at port 4059 runs, and whether it woul
 const ENDINGS: &str = "\
 Exit status:
   0  the report was written, whoever was silent
-  1  a fault: standard error has `dlmsfw: NAME`, with one of these names, and of the first three and Socket
+  1  a fault: standard error has `dlmsfw: NAME`, with one of these names, and of the first five and Socket
      a second line with the option that it is about and the cause, if that is known
        ListFault     LIST can't be opened or read; `head --help` has the causes
        BadList L     line L of LIST, counted from 1, is none of a list, as `head --help` says it

@@ -3,7 +3,6 @@ use Rattle.fw_audit.specs.Departures.{IsRefused}
 use Rattle.fw_audit.specs.Log.{log_of}
 use Rattle.fw_audit.specs.Stands.{IsMeterLog}
 use Rattle.fw_audit.specs.declared.item.LogItem.{LogItem}
-use Rattle.fw_capture.specs.View.{endpoint_of}
 use Rattle.fw_image.specs.Meter.{reopened}
 use Rattle.fw_evidence.specs.Private.{IsMarked}
 use Rattle.fw_evidence.specs.declared.error.Mark.{Mark}
@@ -23,7 +22,7 @@ placed-requires c =
     let log = c.in-Ok.log in
     let refused = subst (λ (l : List LogItem). IsRefused c.args.heads.now begin (log_of l) c.args.end.now.meter c.in-Err-audit_meter.error) c.deref.ensures.value c.in-Err-audit_meter.ensures.refused in
     rw c.deref-in-Err-audit_meter.ensures.value
-    (within c.args.heads.now (endpoint_of c.args.at) begin c.args.end.now.meter c.args.capture.now (log_of log.items.items) log.marks.items c.in-Err-audit_meter.error c.in-Ok.ensures.log refused)
+    (within c.args.heads.now c.args.site begin c.args.end.now.meter c.args.capture.now (log_of log.items.items) log.marks.items c.in-Err-audit_meter.error c.in-Ok.ensures.log refused)
 
 pub returns-clause-refused : goal.returns-clause-refused
 returns-clause-refused c =
@@ -31,5 +30,5 @@ returns-clause-refused c =
     let log = c.in-Ok.log in
     let refused = subst (λ (l : List LogItem). IsRefused c.args.heads.now begin (log_of l) c.args.end.now.meter c.in-Err-audit_meter.error) c.deref.ensures.value c.in-Err-audit_meter.ensures.refused in
     let marked = subst (λ (m : List Mark). IsMarked m c.in-Err-audit_meter.error c.placed.result) c.deref-in-Err-audit_meter.ensures.value c.placed.ensures in
-    unfit c.args.heads.now (endpoint_of c.args.at) begin c.args.end.now.meter c.args.capture.now (log_of log.items.items) log.marks.items c.in-Err-audit_meter.error c.placed.result
+    unfit c.args.heads.now c.args.site begin c.args.end.now.meter c.args.capture.now (log_of log.items.items) log.marks.items c.in-Err-audit_meter.error c.placed.result
     c.in-Ok.ensures.log refused marked

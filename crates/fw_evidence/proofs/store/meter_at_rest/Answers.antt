@@ -1,4 +1,4 @@
-use Rattle.std.proofs.Common.{List, ℕ, subst}
+use Rattle.std.proofs.Common.{rules, List, ℕ, inl, subst}
 use Rattle.std.proofs.lemmas.Result.{IfErr-weaker, IfOk-weaker}
 use Rattle.fw_image.specs.State.{State}
 use Rattle.fw_evidence.specs.Stores.{HoldsMeter, HoldsNone, IsAtRest, IsNoMeter}
@@ -23,3 +23,6 @@ returns-clause-refused c =
     IfErr-weaker c.meter_in.result (λ (e : StoreRefusal). HoldsNone c.deref.result.now e) (λ (e : StoreRefusal). IsNoMeter store undo e)
     (λ e is. none_made store undo made e c.in-Ok.ensures.recovered (subst (λ (b : List ℕ). HoldsNone b e) c.deref.ensures.value is))
     c.meter_in.ensures.refused
+
+pub returns-in-Err-OutOfMemory-clause-refused : goal.returns-in-Err-OutOfMemory-clause-refused
+returns-in-Err-OutOfMemory-clause-refused c = inl (c.in-Err-OutOfMemory.ensures.torn (search rules))

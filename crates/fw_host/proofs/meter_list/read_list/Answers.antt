@@ -1,7 +1,7 @@
 use Rattle.std.proofs.Common.{◌≡◌, ◌∙◌, Err, [], inr, refl, rules, sym}
 use Rattle.csv.specs.Reading.{Reached, strip_bom}
 use Rattle.csv.specs.Records.{fields_of}
-use Rattle.fw_faults.specs.declared.fault.Fault.TheVariants.{BadList}
+use Rattle.fw_host.specs.declared.error.ListError.TheVariants.{BadList}
 use Rattle.fw_host.proofs.Listings.{list_read, no_list, read_stops, record_read}
 use Rattle.fw_host.proofs.meter_list.read_list.Goals as goal
 
