@@ -2,12 +2,16 @@
 
 import contextlib
 import hashlib
+import importlib.machinery
+import importlib.util
 import os
+import pathlib
 import re
 import select
 import signal
 import socket
 import subprocess
+import sys
 import threading
 import time
 
@@ -83,6 +87,15 @@ class Head:
         if not select.select([self.socket], [], [], patience)[0]:
             return "-"
         return self.socket.recv(65535).hex()
+
+
+def script(name):
+    """A script of hostile/ as a module."""
+    loader = importlib.machinery.SourceFileLoader(name, str(pathlib.Path(__file__).with_name(name)))
+    module = importlib.util.module_from_spec(importlib.util.spec_from_loader(name, loader))
+    sys.modules[name] = module
+    loader.exec_module(module)
+    return module
 
 
 def preloaded(library, **settings):
@@ -343,6 +356,13 @@ class Relay(threading.Thread):
             self.open = False
             self.join()
 
+    def pass_on(self, number, data, is_asked):
+        """Passes a datagram on, to a meter or to the head end."""
+        if is_asked:
+            self.backs[number].sendto(data, self.meters[number])
+        else:
+            self.fronts[number].sendto(data, self.head)
+
     def run(self):
         poll = select.epoll()
         at = {}
@@ -358,9 +378,7 @@ class Relay(threading.Thread):
                 is_asked = one is self.fronts[number]
                 if is_asked:
                     self.head = sender
-                    self.backs[number].sendto(data, self.meters[number])
-                else:
-                    self.fronts[number].sendto(data, self.head)
+                self.pass_on(number, data, is_asked)
                 self.passed(self, data, is_asked)
         poll.close()
 

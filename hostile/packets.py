@@ -1,0 +1,101 @@
+"""Captures and their packets, made and read apart from the program, as docs/FORMATS.md has them (pcap; RFC 768, RFC 791, RFC 8200)."""
+
+import ipaddress
+import socket
+import struct
+import typing
+
+MILLISECOND = 1_000_000
+# The bytes before the first record of a capture, and those of the header of a record.
+FRONT, RECORD = 24, 16
+
+
+def checksum(data):
+    """The checksum of IP and UDP (RFC 1071)."""
+    data += b"\0" * (len(data) % 2)
+    total = sum(struct.unpack(f">{len(data) // 2}H", data))
+    while total >> 16:
+        total = (total & 0xFFFF) + (total >> 16)
+    return 0xFFFF - total
+
+
+def ipv4(protocol, ends, payload):
+    """An IPv4 packet, between these two addresses."""
+    header = struct.pack(">BBHHHBBH", 0x45, 0, 20 + len(payload), 0, 0x4000, 64, protocol, 0) + ends
+    return header[:10] + struct.pack(">H", checksum(header)) + header[12:] + payload
+
+
+def ipv6(protocol, ends, payload):
+    """An IPv6 packet, between these two addresses."""
+    return struct.pack(">IHBB", 6 << 28, len(payload), protocol, 64) + ends + payload
+
+
+def udp(source, dest, data):
+    """The IP packet of a UDP datagram."""
+    ends = ipaddress.ip_address(source[0]).packed + ipaddress.ip_address(dest[0]).packed
+    header = struct.pack(">HHHH", source[1], dest[1], 8 + len(data), 0)
+    # The sum is the same over the two pseudo-headers.
+    pseudo = ends + struct.pack(">II", len(header) + len(data), 17)
+    total = checksum(pseudo + header + data) or 0xFFFF
+    return (ipv4 if len(ends) == 8 else ipv6)(17, ends, header[:6] + struct.pack(">H", total) + data)
+
+
+# How the number of a note stands behind its words.
+FORMS = {"strangers": ">Q", "turn": ">H"}
+
+
+def note(words):
+    """The packet of a note. The number of strangers stands behind the words in eight bytes, and the port of a turn in two."""
+    name, _, number = words.partition(" ")
+    text = f"dlmsfw {name}".encode() + (b" " + struct.pack(FORMS[name], int(number)) if number else b"")
+    return ipv4(253, 2 * socket.inet_aton("127.0.0.1"), text)
+
+
+# What stands before a packet of each link.
+LINKS = {
+    101: b"",
+    1: bytes(12) + b"\x08\x00",
+    113: bytes(14) + b"\x08\x00",
+    276: b"\x08\x00" + bytes(18),
+}
+
+
+def capture(packets, link=101, order="<", nano=True):
+    """The capture of packets, a millisecond apart."""
+    parts = [struct.pack(order + "IHHIIII", 0xA1B23C4D if nano else 0xA1B2C3D4, 2, 4, 0, 0, 65535, link)]
+    for number, packet in enumerate(packets):
+        frame = LINKS[link] + packet
+        seconds, part = divmod(number * MILLISECOND, 1_000_000_000)
+        parts.append(struct.pack(order + "IIII", seconds, part if nano else part // 1000, len(frame), len(frame)) + frame)
+    return b"".join(parts)
+
+
+class Packet(typing.NamedTuple):
+    """What a record tells: its time, in nanoseconds, and a note, or a datagram."""
+
+    time: int
+    note: str = ""
+    source: tuple = ()
+    dest: tuple = ()
+    data: bytes = b""
+
+
+def packet_of(moment, packet):
+    """What a packet tells."""
+    is_four = packet[0] >> 4 == 4
+    if is_four and packet[9] == 253:
+        name, _, number = packet[27:].partition(b" ")
+        return Packet(moment, name.decode() + (f" {int.from_bytes(number, 'big')}" if number else ""))
+    begin, size = (12, 4) if is_four else (8, 16)
+    header = begin + 2 * size
+    source, dest = (str(ipaddress.ip_address(packet[at : at + size])) for at in (begin, begin + size))
+    ports = struct.unpack_from(">HH", packet, header)
+    return Packet(moment, "", (source, ports[0]), (dest, ports[1]), packet[header + 8 :])
+
+
+def ends_of(whole):
+    """Where the file header of a capture ends, and each record."""
+    ends = [FRONT]
+    while ends[-1] + RECORD <= len(whole):
+        ends.append(ends[-1] + RECORD + struct.unpack_from("<I", whole, ends[-1] + 8)[0])
+    return ends
