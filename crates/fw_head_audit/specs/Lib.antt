@@ -1,0 +1,5 @@
+-- Public vocabulary: the words of public clauses, for callers and readers.
+pub mod Heads
+pub mod Laws
+-- For private members alone: no public clause cites it.
+pub mod Private

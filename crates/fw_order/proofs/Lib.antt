@@ -1,0 +1,6 @@
+mod Lists
+mod Orders
+mod Sending
+mod Steps
+mod Sticking
+mod Biting
