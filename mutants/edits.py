@@ -16,15 +16,18 @@ class Unfit(Exception):
 
 # The line of an edit that says what refused it when it was last tried.
 REFUSED_BY = "refused-by"
+# What the line of an edit that must not compile begins with.
+ERROR = "error"
 
 
 class Edit:
     """One edit: its name, its file, its text without the line of what refused it, that line, the test or the step of a run that it
-    names, if it names one, what has to be checked beside the functions that it changes, and the pairs of it by file."""
+    names, if it names one, what has to be checked beside the functions that it changes, the pairs of it by file, and a line that is none of
+    these."""
 
     def __init__(self, name, path):
         self.name, self.path, self.test, self.seen_by, self.refused_by = name, path, None, None, None
-        self.checks, self.pairs = [], []
+        self.checks, self.pairs, self.unread = [], [], None
         with open(path, encoding="utf-8") as it:
             lines = it.read().split("\n")
         self.text = "\n".join(line for line in lines if not line.startswith(f"{REFUSED_BY}:"))
@@ -46,6 +49,8 @@ class Edit:
                 old = rest
             elif word == "new":
                 self.pairs.append((file, old, rest))
+            elif line and word != ERROR:
+                self.unread = line
 
     def note(self, refused_by):
         """Writes into the file what refused the edit, or takes that line out of it."""
@@ -61,10 +66,14 @@ class Edit:
         made, places = {}, []
         if not self.pairs:
             raise Unfit("it has no 'old:' and 'new:' pair")
+        if self.unread:
+            raise Unfit(f"a line of it is none of an edit: {self.unread.strip()}")
         for file, old, new in self.pairs:
             if file not in texts:
                 raise Unfit(f"there is no file {file}")
             text = made.get(file, texts[file])
+            if old == new:
+                raise Unfit(f"an 'old:' text of {file} is its 'new:' text too")
             if not old or text.count(old) != 1:
                 raise Unfit(f"an 'old:' text is in {file} {text.count(old) if old else 0} times, and not once")
             places.append((file, text[: text.index(old)].count("\n")))
