@@ -1,6 +1,7 @@
-"""Edits in copies: the body that an edit makes wrong stands in a copy of its function, right behind it, with a copy of what was written of its
-proof. Whatever calls the function goes on calling it as it stands. So edits of one function, of its callers and of what it calls are tried
-in one check, and none hides what comes of another."""
+"""Edits in copies, over contracts. The body that an edit makes wrong stands in a copy of its function, right behind it, with a copy of what was
+written of its proof. Whatever calls the function goes on calling it as it stands: so edits of one function, of its callers and of what it
+calls are tried in one check, and none hides what comes of another. A function is proved against the contracts of those that it calls: so
+a hole can stand for a proof of these, where it is known that they are proved."""
 import collections
 import re
 
@@ -8,6 +9,14 @@ from prover import functions_of
 
 # What a copy has behind its function's name, before the number of its edit.
 MARK = "_edit"
+# A proof of a function that is one hole, and where it stands in the function's folder.
+HOLE_FILE = "/Proof.antt"
+HOLE = """\
+use Rattle.{crate}.proofs.{path}.Statement.{{statement}}
+
+pub {name}_spec : {{M : Type 1}} → statement M
+{name}_spec = ?
+"""
 # How the head of a function begins, before its name.
 HEAD = r"( *(?:pub(?:\([a-z ]+\))? )?(?:final )?(?:const )?(?:unsafe )?fn )"
 
@@ -44,6 +53,18 @@ def with_copies(crate, edits):
             lines[at:at] = copy
         texts[file] = "\n".join(lines)
     return {path: text for path, text in texts.items() if text != crate.texts.get(path)}, paths
+
+
+def holes(crate, paths):
+    """The texts by which a check takes each function of a crate by its contract, but those at these paths: a hole stands for its proof, and
+    what was written of that, here None, goes."""
+    texts = {}
+    for it in crate.functions:
+        if it.path not in paths and it.name != "main" and not it.unit.startswith("cycle "):
+            folder = f"proofs/{it.path.replace('::', '/')}"
+            texts.update({path: None for path in (f"{folder}/Answers.antt", f"{folder}/Invariants.antt") if path in crate.texts})
+            texts[f"{folder}{HOLE_FILE}"] = HOLE.format(path=it.path.replace("::", "."), crate=crate.name, name=name_of(it))
+    return texts
 
 
 def name_of(function):

@@ -248,14 +248,14 @@ def crates_of(files):
 def judged(crate, changed, status, lines):
     """What a check with some edits says: a kind if it says the same of all of them (that they don't compile, have no
     verdict, or are let through), otherwise each thing that it says of a place."""
-    last = next((it for it in reversed(lines) if it.startswith(("logic=", "only=", "rattle: no verdict"))), "")
+    last = next((it for it in reversed(lines) if it.startswith(("logic=", "only=", "holes=", "rattle: no verdict"))), "")
     if status == 0 and re.match(r"logic=proved |only=(\d+) proved=\1$", last):
         return Check(THROUGH, [], "")
     errors = [it for it in lines if re.match(r"\S+:\d+:\d+: error|error", it)]
     bad = next((it for it in errors if unread(it, changed)), "")
     if bad:
         return Check(NOT_COMPILED, [], bad)
-    if last.startswith(("logic=not-proved", "only=")) and status == 1:
+    if last.startswith(("logic=not-proved", "only=", "holes=")) and status == 1:
         told = [it for it in map(crate.told, lines) if it]
         functions = dict(it.groups() for it in (re.match(rf"fn {crate.name}::(\S+): (.*)", it) for it in lines) if it)
         return Check(None, told, unproved_in(lines), functions)
