@@ -106,7 +106,7 @@ def a_head_end_waits_and_stays(place):
 
 # To be seen: a head end that ignores --every.
 def progress_is_told(place):
-    """With --every 1 a head end tells within seconds how far it is, and with --every 0 it doesn't."""
+    """With --every 1 a head end tells how far it is in a progress line within seconds, and with --every 0 it doesn't."""
     meter = bound()
     heads = []
     for every in ("0", "1"):
