@@ -1,0 +1,13 @@
+mod Lists
+mod Orders
+mod Ends
+mod Worlds
+mod Books
+mod Rows
+mod Beginning
+mod MeterSteps
+mod HeadSteps
+mod Along
+mod Marking
+mod Telling
+mod Headline
