@@ -85,12 +85,12 @@ class Tape:
     def having(self, records, rule="", number=None, rest=b"", front=None):
         """What is audited if the capture has these records, and the departure at one of them."""
         self.name.write_bytes((front or self.front) + b"".join(records) + rest)
-        return self.audit(self.name, self.store), *([f"{rule} {self.name} {number} {offset(records, number)}"] if rule else [])
+        return self.audit(self.name, self.store), *([f"{rule} {self.name} {number} {offset(records, number)} meter 1"] if rule else [])
 
     def faulty(self, records, fault, at, rest=b"", front=None):
         """The same of a capture that can't be read on from a place."""
         subjects, *_ = self.having(records, rest=rest, front=front)
-        return subjects, f"{fault} {self.name} {at}"
+        return subjects, f"{fault} {self.name} {at} meter 1"
 
     def storing(self, data, rule="", journal=None):
         """What is audited if the store has these bytes, and how it departs."""
@@ -394,7 +394,7 @@ def other_file_headers(tape):
         yield tape.faulty(records, fault, 0, front=header)
     yield tape.faulty([], "ShortHeader", 0, front=front[:23])
     tape.name.write_bytes(b"")
-    yield tape.audit(tape.name, tape.store), f"ShortHeader {tape.name} 0"
+    yield tape.audit(tape.name, tape.store), f"ShortHeader {tape.name} 0 meter 1"
 
 
 @kind
@@ -549,10 +549,39 @@ def another_list(tape):
     """The list has another address, or an option is another one."""
     records, own = tape.records, (tape.capture, tape.store)
     for at in (f"127.0.0.1:{tape.port ^ 0x80}", f"127.0.0.2:{tape.port}", f"[::1]:{tape.port}"):
-        yield tape.audit(*own, at=at), f"Elsewhere {tape.capture} 1 {offset(records, 1)}"
+        yield tape.audit(*own, at=at), f"Elsewhere {tape.capture} 1 {offset(records, 1)} meter 1"
     for words, number in ((("--block-size", "512", "--capacity", "65536"), 6), (("--block-size", "1024", "--capacity", "9999"), 4)):
         subjects = Subjects(tape.folder, *words).add(1, tape.at, *own)
-        yield subjects, f"OtherReply {tape.capture} {number} {offset(records, number)}"
+        yield subjects, f"OtherReply {tape.capture} {number} {offset(records, number)} meter 1"
     yield Subjects(tape.folder, "--block-size", "1024", "--capacity", "65537").add(1, tape.at, *own), f"OtherStore {tape.store}"
-    yield tape.audit(*own, "--head", "127.0.0.1:1"), f"NothingOwed {tape.capture} 2 {offset(records, 2)}"
-    yield (tape.audit(*own, "--head", tape.head.address()),)
+    for head in ("127.0.0.1:1", tape.head.address()):
+        yield tape.audit(*own, "--head", head), f"OtherHeads {tape.capture} 0 {offset(records, 0)} meter 1"
+    # An older capture doesn't say who may ask.
+    old = [recorded(note("start")) if number in tape.starts else record for number, record in enumerate(records)]
+    tape.having(old)
+    yield tape.audit(tape.name, tape.store, "--head", "127.0.0.1:1"), f"NothingOwed {tape.name} 2 {offset(old, 2)} meter 1"
+    yield (tape.audit(tape.name, tape.store, "--head", tape.head.address()),)
+
+
+@kind
+def start_of_another(tape):
+    """A start is that of a head end, or of a meter that other ones may ask; an older one, and one of several meters, may be this one's."""
+    for at in tape.starts:
+        for line, rule in (("start head 7", "StartedAsHead"), ("start meter count 0 heads 1", "OtherHeads")):
+            yield tape.having([*tape.records[:at], recorded(note(line)), *tape.records[at + 1:]], rule, at)
+        for line in ("start", "start meter count 9 heads 0"):
+            yield tape.having([*tape.records[:at], recorded(note(line)), *tape.records[at + 1:]])
+    asking = recorded(note("may ask 127.0.0.1:7"))
+    yield tape.having([tape.records[0], asking, *tape.records[1:]], "OtherHeads", 1)
+
+
+@kind
+def memory_refused(tape):
+    """Memory was refused for a datagram, so that no reply is owed any more. While an image is verified the audit has no place for that."""
+    unserved = recorded(note(f"unserved {tape.port}"))
+    for number, one, before, behind in each_reply(tape):
+        if not tape.starts[1] < number < tape.verified:
+            yield tape.having([*before, one, unserved, *behind])
+        yield tape.having([*before, unserved, one, *behind], "NothingOwed", number + 1)
+    stray = recorded(note(f"unserved {tape.port ^ 1}"))
+    yield tape.having([*tape.records[:3], stray, *tape.records[3:]], "Elsewhere", 3)

@@ -7,7 +7,7 @@ import shutil
 import struct
 import subprocess
 
-from ends import Killed, Meter, program, wants
+from ends import Fleet, Killed, Meter, program, wants
 from packets import FRONT, RECORD
 
 # The options of a meter that an audit has too.
@@ -15,7 +15,7 @@ SHARED = ("--block-size", "--capacity", "--factory-file")
 
 
 class Subjects:
-    """What is audited: a line for each meter, with the options of the audit."""
+    """What is audited: a line for each meter, with the options of the audit, of which some are head ends."""
 
     def __init__(self, folder, *words):
         self.file, self.words, self.lines = folder / "audited.csv", words, []
@@ -23,6 +23,11 @@ class Subjects:
     def add(self, number, address, capture, store, *began):
         """Adds a meter."""
         self.lines.append(",".join(map(str, (number, address, capture, store, *began))))
+        return self
+
+    def led_by(self, address, capture, book):
+        """Adds a head end with its capture and its book."""
+        self.words = (*self.words, "--head-log", f"{address},{capture},{book}")
         return self
 
     def audit(self):
@@ -72,6 +77,52 @@ def name_of(address):
     return f"[{host}]:{port}" if ":" in host else f"{host}:{port}"
 
 
+def digest(image):
+    """The SHA-256 of an image, as lines have it."""
+    return hashlib.sha256(image).hexdigest()
+
+
+class Taped(Fleet):
+    """Meters in processes of their own, each with a capture."""
+
+    def start(self, number, listen, env=None):
+        head = ["--head", self.heads[number], "--head", self.asker.address()] if number in self.heads else []
+        return Meter(self.folder / f"{number}.fw", *self.words, "--capture", self.folder / f"{number}.pcap", *head, listen=listen, env=env)
+
+    def subjects(self, *words):
+        """All of them."""
+        subjects = Subjects(self.folder, *self.words, *words)
+        for number, address in self.addresses.items():
+            subjects.add(number, address, self.folder / f"{number}.pcap", self.folder / f"{number}.fw")
+        return subjects
+
+    def stop(self):
+        """Kills all."""
+        for meter in self.meters.values():
+            meter.kill()
+
+
+class Journal:
+    """A book by its records (docs/BOOK.md, docs/FORMATS.md)."""
+
+    def __init__(self, path):
+        data, at = path.read_bytes(), 4
+        wants(data[:4] == b"FWJ1", f"a book begins with {data[:4]}")
+        self.records = []
+        while at < len(data) and data[at] == 1:
+            size = int.from_bytes(data[at + 1:at + 5], "big")
+            self.records.append(data[at + 5:at + 5 + size])
+            at += 37 + size
+
+    def write(self, path, records):
+        """Writes a book of these records."""
+        data = b"FWJ1"
+        for record in records:
+            data += b"\1" + struct.pack(">I", len(record)) + record + hashlib.sha256(record).digest()
+        path.write_bytes(data + b"\0")
+        return path
+
+
 # ---- captures by their records
 
 
@@ -112,6 +163,16 @@ def addresses_in(record):
         return None
     ports = struct.unpack_from(">HH", packet, 20)
     return (packet[12:16], ports[0]), (packet[16:20], ports[1])
+
+
+def readdressed(record, ports):
+    """The same between other ports, by those that it has, and so is an address that may ask."""
+    made, text = bytearray(record), record[RECORD + 20:]
+    places = (RECORD + 20, RECORD + 22) if addresses_in(record) else (len(record) - 2,) if text.startswith(b"dlmsfw may ask ") else ()
+    for at in places:
+        (port,) = struct.unpack_from(">H", record, at)
+        struct.pack_into(">H", made, at, ports.get(port, port))
+    return bytes(made)
 
 
 # ---- meters that others run

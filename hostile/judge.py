@@ -57,9 +57,18 @@ def tells(packet, link):
 
 
 def noted(text):
-    """What a note tells: a start, a turn and of which port, or strangers."""
+    """What a note tells: a start, and how many may ask, if that is known; who may; a head end; a turn, or that memory was refused, and of
+    which port; or strangers."""
     if text in (b"dlmsfw start", b"dlmsfw turn"):
         return text[7:].decode(), None
+    if text.startswith(b"dlmsfw start meter ") and len(text) == 31:
+        return "start", struct.unpack(">Q", text[23:])[0]
+    if text.startswith(b"dlmsfw start head ") and len(text) == 22:
+        return "head", None
+    if text.startswith(b"dlmsfw may ask ") and len(text) in (21, 33):
+        return "may ask", (text[15:-2], struct.unpack(">H", text[-2:])[0])
+    if text.startswith(b"dlmsfw unserved ") and len(text) == 18:
+        return "unserved", struct.unpack(">H", text[16:])[0]
     if text.startswith(b"dlmsfw turn ") and len(text) == 14:
         return "turn", struct.unpack(">H", text[12:])[0]
     return ("strangers", None) if text.startswith(b"dlmsfw strangers ") and len(text) == 25 else None
@@ -125,11 +134,11 @@ def whole(data):
     return data
 
 
-def items_of(data, at, others):
+def items_of(data, at, others, heads):
     """The items of the log of a meter: the number and the offset of the record, what it is, of whom, and the bytes."""
     items = []
     for number, place, told in Capture(data).records():
-        found = item_of(told, at, others)
+        found = item_of(told, at, others, heads)
         if isinstance(found, str):
             raise Departs(found, number, place)
         if found:
@@ -137,7 +146,7 @@ def items_of(data, at, others):
     return items
 
 
-def item_of(told, at, others):
+def item_of(told, at, others, heads):
     """The item that a record is for the meter at an address; None if it is another one's; and a rule by its name."""
     if told is None:
         return "NoEntry"
@@ -145,12 +154,17 @@ def item_of(told, at, others):
     if kind == "strangers":
         return None
     if kind == "start":
-        return "start", None, b""
-    if kind == "turn":
+        return ("start", None, b"") if more[0] in (None, len(heads)) else "OtherHeads"
+    if kind == "head":
+        return "StartedAsHead"
+    if kind == "may ask":
+        return None if more[0] in heads else "OtherHeads"
+    if kind in ("turn", "unserved"):
+        item = "turn" if kind == "turn" else "start"
         if more[0] is None:
-            return "UnnamedTurn" if others else ("turn", None, b"")
+            return "UnnamedTurn" if others else (item, None, b"")
         if more[0] == at[1]:
-            return "turn", None, b""
+            return item, None, b""
         return None if more[0] in [port for _, port in others] else "Elsewhere"
     source, dest, data = more
     ends = {source, dest}
@@ -301,6 +315,29 @@ def switches_of(begin, items, end, heads):
     raise Departs("OtherStore")
 
 
+# ---- orders
+
+
+def waiting(logs):
+    """Where ends wait for each other: the number of the end, that of its item, and the rule. Each log is that of an address, of items that are
+    starts, or datagrams that came or were sent."""
+    ends, done, told = {at for at, _ in logs}, [0] * len(logs), set()
+    sent = {(at, end, data) for at, items in logs for kind, end, data in items if kind == "sent"}
+    going = True
+    while going:
+        going = False
+        for number, (at, items) in enumerate(logs):
+            while done[number] < len(items):
+                kind, end, data = items[done[number]]
+                if kind == "came" and end in ends and (end, at, data) not in told:
+                    break
+                if kind == "sent":
+                    told.add((at, end, data))
+                done[number], going = done[number] + 1, True
+    stuck = [(number, done[number], at, items) for number, (at, items) in enumerate(logs) if done[number] < len(items)]
+    return [(number, item, "SentLater" if (items[item][1], at, items[item][2]) in sent else "NeverSent") for number, item, at, items in stuck]
+
+
 # ---- what an audit says
 
 
@@ -319,11 +356,13 @@ def judged(number, address, captured, store, heads=(), others=(), began=None, **
             setattr(begin, name, value)
         path = store
         end = meter_in(read(store), read(f"{store}.journal"))
-        items = items_of(whole(read(captured)), end_of(address), [end_of(it) for it in others])
-        switches = switches_of(begin, items, end, [end_of(it) for it in heads])
+        heads = [end_of(it) for it in heads]
+        items = items_of(whole(read(captured)), end_of(address), [end_of(it) for it in others], heads)
+        switches = switches_of(begin, items, end, heads)
     except Departs as why:
         rule, *at = why.args
-        return [" ".join(map(str, ("departs", rule, captured if at else path, *at)))]
+        where = (captured, *at, "meter", number) if at else (path,)
+        return [" ".join(map(str, ("departs", rule, *where)))]
     kinds = [kind for _, _, kind, _, _ in items]
     return [f"meter {number} ok {kinds.count('came') + kinds.count('sent')} datagrams {kinds.count('start')} starts",
             *(f"activated {number} {head} {serial} {release} {digest.hex()}" for head, serial, release, digest in switches)]

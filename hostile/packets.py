@@ -40,15 +40,35 @@ def udp(source, dest, data):
     return (ipv4 if len(ends) == 8 else ipv6)(17, ends, header[:6] + struct.pack(">H", total) + data)
 
 
-# How the number of a note stands behind its words.
-FORMS = {"strangers": ">Q", "turn": ">H"}
+# How the numbers of a note stand behind its words. In a line of `trace` the two of a start of meters stand behind `count` and `heads`.
+FORMS = {"strangers": ">Q", "turn": ">H", "unserved": ">H", "start head": ">I", "start meter": ">IQ"}
 
 
-def note(words):
-    """The packet of a note. The number of strangers stands behind the words in eight bytes, and the port of a turn in two."""
-    name, _, number = words.partition(" ")
-    text = f"dlmsfw {name}".encode() + (b" " + struct.pack(FORMS[name], int(number)) if number else b"")
-    return ipv4(253, 2 * socket.inet_aton("127.0.0.1"), text)
+def note(line):
+    """The packet of a note, by its line of `trace`: its words, and its numbers behind them. An address that may ask stands there as its bytes and
+    its port."""
+    words = line.replace(" count ", " ").replace(" heads ", " ").split(" ")
+    name = " ".join(word for word in words if not word.isdigit())
+    text = name.encode()
+    if line.startswith("may ask "):
+        host, _, port = words[2].rpartition(":")
+        text = b"may ask " + ipaddress.ip_address(host.strip("[]")).packed + struct.pack(">H", int(port))
+    elif name != line:
+        text += b" " + struct.pack(FORMS[name], *(int(word) for word in words if word.isdigit()))
+    return ipv4(253, 2 * socket.inet_aton("127.0.0.1"), b"dlmsfw " + text)
+
+
+def line_of(text):
+    """The line of `trace` of a note, by its text."""
+    text = text.removeprefix(b"dlmsfw ")
+    if text.startswith(b"may ask "):
+        host, port = str(ipaddress.ip_address(text[8:-2])), int.from_bytes(text[-2:], "big")
+        return f"may ask [{host}]:{port}" if ":" in host else f"may ask {host}:{port}"
+    for name, form in FORMS.items():
+        if text.startswith(f"{name} ".encode()):
+            numbers = struct.unpack(form, text[len(name) + 1 :])
+            return "{} count {} heads {}".format(name, *numbers) if len(numbers) == 2 else f"{name} {numbers[0]}"
+    return text.decode()
 
 
 # What stands before a packet of each link.
@@ -84,8 +104,7 @@ def packet_of(moment, packet):
     """What a packet tells."""
     is_four = packet[0] >> 4 == 4
     if is_four and packet[9] == 253:
-        name, _, number = packet[27:].partition(b" ")
-        return Packet(moment, name.decode() + (f" {int.from_bytes(number, 'big')}" if number else ""))
+        return Packet(moment, line_of(packet[20:]))
     begin, size = (12, 4) if is_four else (8, 16)
     header = begin + 2 * size
     source, dest = (str(ipaddress.ip_address(packet[at : at + size])) for at in (begin, begin + size))

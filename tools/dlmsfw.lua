@@ -360,17 +360,32 @@ local function heuristic(buffer, pinfo, tree)
   return true
 end
 
--- A note of a process that wrote the capture: the words after "dlmsfw ". The port of the meter that took a turn stands behind them in two
--- bytes, and the number of strangers in eight.
+-- A note of a process that wrote the capture: the words after "dlmsfw ". Behind them stand the count of meters that started, in four bytes,
+-- and how many addresses may ask them, in eight; the number of the head end that did, in four; an address that may ask, and its port, in two
+-- bytes; the port of the meter that took a turn, or to which memory was refused, in two; or the number of strangers, in eight.
+local function note_words(buffer)
+  local function is(size, words)
+    return buffer:len() == size and buffer(0, #words):string() == words
+  end
+  if is(12, "dlmsfw start") then return "start" end
+  if is(31, "dlmsfw start meter ") then
+    return "start meter count " .. buffer(19, 4):uint() .. " heads " .. tostring(buffer(23, 8):uint64())
+  end
+  if is(22, "dlmsfw start head ") then return "start head " .. buffer(18, 4):uint() end
+  if is(21, "dlmsfw may ask ") then
+    return "may ask " .. tostring(buffer(15, 4):ipv4()) .. ":" .. buffer(19, 2):uint()
+  end
+  if is(33, "dlmsfw may ask ") then
+    return "may ask [" .. tostring(buffer(15, 16):ipv6()) .. "]:" .. buffer(31, 2):uint()
+  end
+  if is(11, "dlmsfw turn") then return "turn" end
+  if is(14, "dlmsfw turn ") then return "turn " .. buffer(12, 2):uint() end
+  if is(18, "dlmsfw unserved ") then return "unserved " .. buffer(16, 2):uint() end
+  if is(25, "dlmsfw strangers ") then return "strangers " .. tostring(buffer(17, 8):uint64()) end
+end
+
 function note.dissector(buffer, pinfo, tree)
-  local text = buffer():string()
-  local words = text == "dlmsfw start" and "start" or (text == "dlmsfw turn" and "turn" or nil)
-  if buffer:len() == 14 and buffer(0, 12):string() == "dlmsfw turn " then
-    words = "turn " .. tostring(buffer(12, 2):uint())
-  end
-  if buffer:len() == 25 and buffer(0, 17):string() == "dlmsfw strangers " then
-    words = "strangers " .. tostring(buffer(17, 8):uint64())
-  end
+  local words = note_words(buffer)
   if not words then return 0 end
   pinfo.cols.protocol = "dlmsfw"
   pinfo.cols.info = words

@@ -1,16 +1,19 @@
-"""Audits of a meter that is run here, by its capture and its store as they are, and as they are not."""
+"""Audits of a meter and of a head end that are run here, by their captures, store and book as they are, and as they are not."""
 
 import hashlib
 import json
+import socket
 import struct
 
-from common import Head, Meter, listed, wants
-from ends import GET_STATUS, STATUS, HeadEnd, action, opening, transfer
+from common import HOST, Head, Members, Meter, bound, listed, name_of, received, wants
+from ends import GET_STATUS, STATUS, HeadEnd, action, opening, transfer, with_invoke_byte
 
 ROOM = ["--block-size", "1024", "--capacity", "8192"]
 IMAGE = bytes(range(256)) * 8
-# The bytes before the first record of a capture, and those of the header of a record.
-FRONT, RECORD = 24, 16
+# The bytes before the first record of a capture, those of the header of a record, and those before what a datagram of IPv4 has.
+FRONT, RECORD, UDP = 24, 16, 28
+# A book that has no record (docs/FORMATS.md).
+NO_RECORD = b"FWJ1\0"
 
 
 def led(place):
@@ -78,16 +81,50 @@ def what_it_did_not_departs(place):
         turned = bytearray(whole)
         turned[places[number + 1] - 1] ^= 1
         changed.write_bytes(turned)
-        departs(f"OtherReply {changed} {number} {places[number]}")
+        departs(f"OtherReply {changed} {number} {places[number]} meter 1")
     changed.write_bytes(whole[:places[2]] + whole[places[3]:])
-    departs(f"ReplyMissing {changed} 2 {places[2]}")
+    departs(f"ReplyMissing {changed} 2 {places[2]} meter 1")
     changed.write_bytes(b"x" + whole[1:])
-    departs(f"BadMagic {changed} 0")
+    departs(f"BadMagic {changed} 0 meter 1")
     changed.write_bytes(whole[:places[-3]])
     departs(f"OtherStore {store}")
     with Meter(place.folder / "new.fw", *ROOM).killed():
         pass
     departs(f"OtherStore {place.folder / 'new.fw'}", capture, place.folder / "new.fw")
+
+
+# To be seen: a departure in the capture of several meters that doesn't say of which it is, or that names another.
+def what_departs_names_its_meter(place):
+    """Of two meters with one capture that one departs whose reply was changed, by its number; both, if the capture can't be read on."""
+    head, capture, changed = Head(), place.folder / "m.pcap", place.folder / "changed.pcap"
+    fleet = Members(place.folder, 2, *ROOM, "--capture", capture)
+    with fleet.meter.killed():
+        for at in fleet.at:
+            wants(head.ask(at, GET_STATUS) == STATUS % 0, "a meter doesn't answer")
+    whole, places = capture.read_bytes(), records_of(capture)
+    wants(len(places) == 6, f"the capture has {len(places) - 1} records")
+    lines = (f"{number},{{}}:{{}},{changed},{place.folder}/fleet.fw.{number}\n".format(*at.address) for number, at in enumerate(fleet.at, 1))
+    (place.folder / "audited.csv").write_text("".join(lines))
+
+    def told(data, *words):
+        changed.write_bytes(data)
+        status, out, said = place.run("audit", "--audited", "audited.csv", *ROOM, *words)
+        wants((status, said) == (1, []), f"it ends with {status}, {out} and {said}")
+        return [line for line in out.splitlines() if not line.startswith(("audited ", '{"audited":'))]
+
+    # The last record is the second meter's reply.
+    turned = whole[:-1] + bytes([whole[-1] ^ 1])
+    fits, departs, last = told(turned)
+    wants(fits == "meter 1 ok 2 datagrams 1 starts", f"of the first meter it says {fits}")
+    wants(departs.startswith(f"departs OtherReply {changed} 4 {places[4]} meter 2: ") and last == "departs 1", f"it says {departs} and {last}")
+    departs = json.loads(told(turned, "--report", "json")[1])
+    wanted = {"departs": "OtherReply", "meter": 2, "offset": places[4], "path": str(changed), "record": 4}
+    wants(wanted.items() < departs.items() and departs["why"], f"it says {departs}")
+    for number, line in enumerate(told(b"x" + whole[1:])[:2], 1):
+        wants(line == f"departs BadMagic {changed} 0 meter {number}: no record stands there", f"it says {line}")
+    for number, line in enumerate(told(b"x" + whole[1:], "--report", "json")[:2], 1):
+        wanted = {"departs": "BadMagic", "meter": number, "offset": 0, "path": str(changed), "why": "no record stands there"}
+        wants(json.loads(line) == wanted, f"it says {line}")
 
 
 # To be seen: an audit that doesn't look at rows or at switches, or takes any book for one that offers an image.
@@ -116,4 +153,154 @@ def rows_and_switches_are_borne_out(place):
         wants(told[-1] == {"departed": status, "ok": not status}, f"the last line is {told[-1:]}")
 
 
-STEPS = [what_a_meter_did_fits, what_it_did_not_departs, rows_and_switches_are_borne_out]
+# To be seen: a line that is taken though it is none of a list, another line that is told for it, or another cause, or none.
+def a_bad_line_of_an_audit_is_told(place):
+    """A line that is none of a list is told by its number, with what is wrong with it, and nothing is printed."""
+    number, path = "the first field is no number from 0 to 4294967295", "a path is empty"
+    for line, why in (
+        ("2", "the line has fewer than four fields: a number, an address, a capture and a store"),
+        ("2,127.0.0.1:9,a", "the line has fewer than four fields: a number, an address, a capture and a store"),
+        ("2,127.0.0.1:9,a,b,c,d", "the line has more than five fields; no path has a comma"),
+        ("second,127.0.0.1:9,a,b", number),
+        ("-2,127.0.0.1:9,a,b", number),
+        ("4294967296,127.0.0.1:9,a,b", number),
+        ("2,localhost:9,a,b", "the second field is no address with a port, as 10.0.0.7:4059 or [fd00::7]:4059"),
+        ("2,127.0.0.1:9,,b", path),
+        ("2,127.0.0.1:9,a,", path),
+        ("2,127.0.0.1:9,a,b,", path),
+        ("1,127.0.0.1:10,a,b", "line 2 has the same meter"),
+    ):
+        (place.folder / "audited.csv").write_text(f"\n1,127.0.0.1:9,m.pcap,m.fw\n\n{line}\n")
+        got = place.run("audit", "--audited", "audited.csv")
+        wants(got == (1, "", ["dlmsfw: BadList 4", f"--audited audited.csv: {why}"]), f"at {line!r} it ends with {got}")
+
+
+# ---- head ends
+
+
+def led_by_a_head_end(place):
+    """A meter that a head end led, of whose datagrams the first was lost: its address and that of the head end."""
+    folder, silent = place.folder, bound()
+    at = silent.getsockname()
+    listed(folder, [at])
+    head = HeadEnd(folder, "--new", *opening(folder, IMAGE), "--resend", "20", "--capture", folder / "head.pcap")
+    with head.running():
+        received(silent)
+        silent.close()
+        with Meter(folder / "m.fw", *ROOM, "--capture", folder / "m.pcap", listen=name_of(at)).killed():
+            lines = head.over()
+    (own,) = (line.split()[1] for line in lines if line.startswith("listening "))
+    return name_of(at), own
+
+
+def datagrams_of(capture):
+    """The datagrams of a capture: the number of the record of each, where that begins, where it came from, and its bytes."""
+    data, places = capture.read_bytes(), records_of(capture)
+    for number, (begin, end) in enumerate(zip(places, places[1:])):
+        packet = data[begin + RECORD:end]
+        if packet[9] == 17:
+            source = f"{'.'.join(map(str, packet[12:16]))}:{struct.unpack_from('>H', packet, 20)[0]}"
+            yield number, begin, source, packet[UDP:]
+
+
+def field_audited(place, at, *heads, book=None, form="lines"):
+    """The status of an audit of the meter with these head ends, and with a book, its lines that are none of files, and those of standard error."""
+    (place.folder / "audited.csv").write_text(f"1,{at},m.pcap,m.fw\n")
+    logs = [word for head in heads for word in ("--head-log", head)] + (["--book", book] if book else [])
+    status, out, said = place.run("audit", "--audited", "audited.csv", *ROOM, *logs, "--report", form)
+    return status, [line for line in out.splitlines() if not line.startswith(("audited ", '{"audited"'))], said
+
+
+# To be seen: an audit that takes what was lost for a departure, asks a clock, counts other datagrams, or doesn't look for an order.
+def what_a_head_end_did_fits(place):
+    """A meter and the head end that led it agree, though a datagram was lost, and each has its line."""
+    at, own = led_by_a_head_end(place)
+    digest = hashlib.sha256(IMAGE).hexdigest()
+    counts = [sum(1 for _ in datagrams_of(place.folder / name)) for name in ("m.pcap", "head.pcap")]
+    status, lines, said = field_audited(place, at, f"{own},head.pcap,head.book")
+    wanted = [f"meter 1 ok {counts[0]} datagrams 1 starts", f"activated 1 7 1 2 {digest}", f"head 7 ok {counts[1]} datagrams 1 starts",
+              "order ok 2 ends 0 others", "ok"]
+    wants((status, lines, said) == (0, wanted, []), f"it ends with {status}, {lines} and {said}")
+    status, lines, said = field_audited(place, at, f"{own},head.pcap,head.book", form="json")
+    told = [json.loads(line) for line in lines[2:]]
+    wanted = [{"datagrams": counts[1], "head": 7, "ok": True, "starts": 1}, {"ends": 2, "ok": True, "others": 0}, {"departed": 0, "ok": True}]
+    wants((status, told, said) == (0, wanted, []), f"as JSON it ends with {status}, {told} and {said}")
+    _, lines, _ = field_audited(place, at)
+    wants(lines[-1] == "ok" and len(lines) == 3, f"without the head end it says {lines}")
+
+
+# To be seen: an order that passes what was never sent, or uses a datagram up; a head end that may send anything, or to anybody; a done row that
+# nobody claimed; a capture of meters that is taken for one of a head end.
+def what_a_head_end_did_not_departs(place):
+    """What a head end didn't send, what it isn't offered to send, a claim that didn't come, and files that aren't its own depart where they do."""
+    at, own = led_by_a_head_end(place)
+    folder = place.folder
+    sent, came = folder / "head.pcap", folder / "m.pcap"
+    whole, places, ask = sent.read_bytes(), records_of(sent), f"{own},changed.pcap,head.book"
+
+    def departs(head, *wanted, book=None):
+        status, lines, said = field_audited(place, at, head, book=book)
+        told = [line.split(":")[0] for line in lines if line.startswith("departs ")]
+        wants((status, told, said) == (1, [*(f"departs {line}" for line in wanted), f"departs {len(wanted)}"], []),
+              f"{wanted} are wanted: it ends with {status}, {lines} and {said}")
+
+    def without(*numbers):
+        kept = [whole[begin:end] for number, (begin, end) in enumerate(zip(places, places[1:])) if number not in numbers]
+        (folder / "changed.pcap").write_bytes(whole[:FRONT] + b"".join(kept))
+
+    asked = [(number, data) for number, _, source, data in datagrams_of(sent) if source == own]
+    answered = {data: (number, begin) for number, begin, source, data in reversed([*datagrams_of(came)]) if source == own}
+    # One that was sent once, and came.
+    number, data = next((number, data) for number, data in asked if data in answered and [it for _, it in asked].count(data) == 1)
+    record, begin = answered[data]
+    without(number)
+    departs(ask, f"NeverSent m.pcap {record} {begin} meter 1")
+    turned = bytearray(whole)
+    turned[places[number + 1] - 1] ^= 1
+    (folder / "changed.pcap").write_bytes(turned)
+    departs(ask, f"NotOffered changed.pcap {number} {places[number]} head 7", f"NeverSent m.pcap {record} {begin} meter 1")
+    reply, at_reply = next((it, begin) for it, begin, source, _ in datagrams_of(sent) if source == at)
+    turned = bytearray(whole)
+    turned[places[reply + 1] - 1] ^= 1
+    (folder / "changed.pcap").write_bytes(turned)
+    departs(ask, f"NeverSent changed.pcap {reply} {at_reply} head 7")
+    digest = hashlib.sha256(IMAGE).digest()
+    without(*(it for it, _, source, data in datagrams_of(sent) if source == at and data.endswith(digest)))
+    departs(ask, "NotClaimed head.book 7 1 1")
+    departs(f"{own},m.pcap,head.book", f"StartedAsMeter m.pcap 0 {FRONT} head 7")
+    (folder / "empty.book").write_bytes(NO_RECORD)
+    departs(f"{own},head.pcap,empty.book", f"NotOffered 1 7 1 2 {digest.hex()}", "NoBook empty.book")
+    departs(f"{own},head.pcap,empty.book", "NoBook empty.book", book="head.book")
+    # Who has the address of the head end once that has ended asks the meter.
+    with Meter(folder / "m.fw", *ROOM, "--capture", came, listen=at).killed() as meter, socket.socket(socket.AF_INET, socket.SOCK_DGRAM) as other:
+        other.bind((HOST, int(own.rsplit(":", 1)[1])))
+        # No head end sends this invoke byte.
+        other.sendto(bytes.fromhex(with_invoke_byte(GET_STATUS, "41")), meter.address)
+        received(other)
+    *_, (last, begin, _, _), _ = datagrams_of(came)
+    departs(f"{own},head.pcap,head.book", f"NeverSent m.pcap {last} {begin} meter 1")
+
+
+# To be seen: a value that is taken though it is no head end; a file that isn't there and has no name of a fault.
+def what_is_no_head_end_is_refused(place):
+    """A value of --head-log that is no address with two paths is a wrong command line, and a capture that isn't there a fault."""
+    (place.folder / "audited.csv").write_text("")
+    (place.folder / "head.book").write_bytes(NO_RECORD)
+    for text in ("", "head.pcap", f"{HOST}:1", f"{HOST}:1,a", f"{HOST}:1,a,b,c", f"{HOST},a,b", f"{HOST}:1,,b", f"{HOST}:1,a,", f"{HOST}:65536,a,b"):
+        status, out, said = place.run("audit", "--audited", "audited.csv", f"--head-log={text}")
+        wants((status, out) == (2, "") and said[0].startswith("error: "), f"{text!r} ends with {status}, {out} and {said}")
+    status, out, said = place.run("audit", "--audited", "audited.csv", "--head-log", f"{HOST}:1,none.pcap,head.book")
+    wanted = ["dlmsfw: CaptureFault", "none.pcap: there is no such file or folder"]
+    wants((status, said) == (1, wanted), f"it ends with {status}, {out} and {said}")
+
+
+STEPS = [
+    what_a_meter_did_fits,
+    what_it_did_not_departs,
+    what_departs_names_its_meter,
+    rows_and_switches_are_borne_out,
+    a_bad_line_of_an_audit_is_told,
+    what_a_head_end_did_fits,
+    what_a_head_end_did_not_departs,
+    what_is_no_head_end_is_refused,
+]

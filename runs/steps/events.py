@@ -5,7 +5,7 @@ import re
 import shutil
 import subprocess
 
-from common import wants
+from common import bound, name_of, wants
 from ends import Fleet, HeadEnd, ended_rows, opening
 
 TIME = re.compile(r"\d{4}-\d\d-\d\dT\d\d:\d\d:\d\d\.\d{6}Z")
@@ -88,17 +88,40 @@ def metrics_have_the_rows(place):
             print("metrics_have_the_rows: promtool isn't here, so no Prometheus reads the page", flush=True)
 
 
-# To be seen: a file of another program that is gone on with or replaced.
+# To be seen: a start that tells nothing of rows without an event, since it can't read which have one; a file that is cut where it can't be read.
+def events_that_cant_be_read_are_told(place):
+    """Whichever read of the file of events fails: the head end says so and leads nobody, or each row that ended has its event then."""
+    folder, refused = place.folder, []
+    path = folder / "events"
+    with Fleet(folder, 2).killed():
+        led(folder, ["--new", *opening(folder, b"newer")])
+    kept = "".join(line for line in path.read_text().splitlines(keepends=True) if '"event":"row"' not in line)
+    for number in range(1, 13):
+        path.write_text(kept)
+        head = HeadEnd(folder, "--events", path, env=place.preloaded("unread", UNREAD=number, NAME="/events"))
+        status, lines, said = head.end()
+        if status == 1:
+            refused.append(number)
+            told = len(said) == 2 and said[0] == "dlmsfw: Output" and said[1].startswith(f"--events {path}: ")
+            wants(told and not lines, f"at read {number} it prints {lines} and says {said}")
+            wants(path.read_text() == kept, f"at read {number} the file is {path.read_text()!r}")
+        else:
+            rows = [line for line in told_in(events_of(folder)) if line.startswith("row ")]
+            wants((status, said, rows) == (0, [], ended_rows(folder)), f"at read {number} it ends with {status} and {said}, and tells {rows}")
+    wants(refused and refused[-1] < 12, f"the reads {refused} are refused")
+
+
+# To be seen: a file of another program that is gone on with or replaced, or that is told by the name of the one beside it.
 def files_of_others_stay(place):
-    """A file that isn't one of events, or of metrics, is left as it is, and the fault says so."""
+    """A file that isn't one of events, or of metrics, is left as it is, and the fault says so. So is one that is named as these are made."""
     (place.folder / "meters.csv").write_text("1,127.0.0.1:4059\n")
     words = ["head", "--head", "7", "--book", "head.book", "--new", "--meters", "meters.csv", "--listen", "127.0.0.1:0"]
-    for name in "events", "metrics":
-        option, path = f"--{name}", place.folder / name
+    for name, told in (("events", ""), ("metrics", ""), ("events.new", "events.new: "), ("metrics.new", "metrics.new: ")):
+        file, path = name.removesuffix(".new"), place.folder / name
         for text in OTHERS:
             path.write_text(text)
-            status, out, said = place.run(*words, option, name)
-            want = ["dlmsfw: Output", f"{option} {name}: it is another program's file"]
+            status, out, said = place.run(*words, f"--{file}", file)
+            want = ["dlmsfw: Output", f"--{file} {file}: {told}it is another program's file"]
             wants((status, out, said) == (1, "", want), f"over {text!r} it ends with {status} and {said}, and prints {out}")
             wants(path.read_text() == text and not (place.folder / "head.book").exists(), f"{name} is {path.read_text()!r}, or a book is made")
             path.unlink()
@@ -113,9 +136,9 @@ def both_files_are_judged_first(place):
     words = ["head", "--head", "7", "--book", "head.book", "--new", "--meters", "meters.csv", "--listen", "127.0.0.1:0"]
     missing, others = "there is no such file or folder", "it is another program's file"
     for events, metrics, want in (
-        ("events", "none/metrics", f"--metrics none/metrics: {missing}"),
+        ("events", "none/metrics", f"--metrics none/metrics: none/metrics.new: {missing}"),
         ("events", "other", f"--metrics other: {others}"),
-        ("none/events", "metrics", f"--events none/events: {missing}"),
+        ("none/events", "metrics", f"--events none/events: none/events.new: {missing}"),
         ("other", "metrics", f"--events other: {others}"),
     ):
         got = place.run(*words, "--events", events, "--metrics", metrics)
@@ -123,4 +146,48 @@ def both_files_are_judged_first(place):
         wants(sorted(place.folder.iterdir()) == before, f"with {events} and {metrics} there are {sorted(place.folder.iterdir())}")
 
 
-STEPS = [events_are_told_with_the_lines, metrics_have_the_rows, files_of_others_stay, both_files_are_judged_first]
+# To be seen: a file of events, or of metrics, that is made or gone on with though another input is refused.
+def other_inputs_are_judged_first(place):
+    """If a head end is refused for its list, image, keys, address or book, no file of events or of metrics is made, and one that is there is as
+    it was."""
+    folder, used, opened = place.folder, bound(), ["--open", "1", "--release", "2", "--image"]
+    for name, text in (("meters.csv", "1,127.0.0.1:4059\n"), ("bad.csv", "1\n"), ("empty.bin", "")):
+        (folder / name).write_text(text)
+    refusals = (
+        ("BadList 1", {"meters": "bad.csv"}, []),
+        ("ListFault", {"meters": "none.csv"}, []),
+        ("ImageFault", {}, [*opened, "none.bin"]),
+        ("EmptyImage", {}, [*opened, "empty.bin"]),
+        ("KeysFault", {}, ["--keys", "none.keys"]),
+        ("Socket", {"listen": name_of(used.getsockname())}, []),
+        ("NoSuchCampaign", {}, ["--cancel", "3"]),
+    )
+
+    def files():
+        # (a book that is opened is written anew)
+        return {it.name: it.read_bytes() for it in folder.iterdir() if it.name != "head.book"}
+
+    def refused(fault, words, meters="meters.csv", listen="127.0.0.1:0"):
+        before = files()
+        got = place.run("head", "--head", "7", "--book", "head.book", "--meters", meters, "--listen", listen, "--events", "events",
+                        "--metrics", "metrics", *words)
+        wants((*got[:2], got[2][:1]) == (1, "", [f"dlmsfw: {fault}"]), f"for {fault} it ends with {got}")
+        wants(files() == before, f"at {fault} the files are {files()}, and were {before}")
+
+    for fault, inputs, words in refusals:
+        refused(fault, [*words, "--new"], **inputs)
+    refused("NoBook", [])
+    led(folder, ["--new"])
+    for fault, inputs, words in refusals:
+        refused(fault, words, **inputs)
+    refused("BookExists", ["--new"])
+
+
+STEPS = [
+    events_are_told_with_the_lines,
+    metrics_have_the_rows,
+    events_that_cant_be_read_are_told,
+    files_of_others_stay,
+    both_files_are_judged_first,
+    other_inputs_are_judged_first,
+]

@@ -355,7 +355,8 @@ def records_of(content):
 def a_capture_is_gone_on_with(place):
     """A capture is gone on with behind its last whole record, and each record has the time at which it was made."""
     capture, asker = place.folder / "meter.pcap", bound()
-    content, ends, times = b"", (b"dlmsfw start", bytes.fromhex(GET_STATUS), bytes.fromhex(STATUS % 0)), [time.time_ns()]
+    start = b"dlmsfw start meter " + bytes(12)
+    content, ends, times = b"", (start, bytes.fromhex(GET_STATUS), bytes.fromhex(STATUS % 0)), [time.time_ns()]
     for starts in (1, 2):
         with Meter(place.folder / "meter.fw", "--capture", capture).killed() as meter:
             asker.sendto(bytes.fromhex(GET_STATUS), meter.address)
@@ -379,8 +380,8 @@ def strangers_are_captured(place):
         status_of_all([head], Head(), [meter])
     packets = [packet for _, packet in records_of(capture.read_bytes())]
     requests = [packet for packet in packets if packet.endswith(bytes.fromhex(GET_STATUS))]
-    # A start, what came, of which three are the stranger's, and a reply.
-    wants((len(packets), len(requests)) == (6, 4), f"the capture has {packets}")
+    # A start, who may ask, what came, of which three are the stranger's, and a reply.
+    wants((len(packets), len(requests)) == (7, 4), f"the capture has {packets}")
 
 
 # To be seen: a capture whose end is told without its file, or for another cause.

@@ -126,7 +126,7 @@ def a_sealed_session_is_opened(place):
         brings(folder, head, 1, IMAGE, "--new", "--new-counter", "--capture", capture)
         activated(meter, 1, IMAGE)
     words, out = key_words(place), folder / "out.pcap"
-    notes = ("start", "turn", "strangers")
+    notes = ("start", "may ask", "turn", "unserved", "strangers")
     sealed = [line for line in traced(place, capture.read_bytes()) if not line.startswith(notes)]
     lines = [line for line in traced(place, capture.read_bytes(), *words, "--plain", out) if not line.startswith(notes)]
     plain = [line for line in traced(place, out.read_bytes()) if not line.startswith(notes)]

@@ -46,12 +46,12 @@ def a_canary_that_fails_stops_the_rollout(place):
         status, lines, said = HeadEnd(folder, "--new", *words).end(patience=PATIENCE)
         ended = ["row 7 1 1 done", f"row 7 1 4 failed: {REFUSED}"]
         stopped = ["dlmsfw: TooManyFailed 1", "--max-failed 0: 1 of 2 rows before wave 1 failed; it begins with --max-failed 1"]
-        wants((status, sorted(lines[2:]), said) == (1, ended, stopped), f"it ends with {status}, {lines} and {said}")
+        wants((status, sorted(lines[2:]), said) == (6, ended, stopped), f"it ends with {status}, {lines} and {said}")
         # Of two rows one failed.
         for few in ("0", "49%"):
             status, lines, said = HeadEnd(folder, *words, "--max-failed", few).end(patience=PATIENCE)
             stopped = ["dlmsfw: TooManyFailed 1", f"--max-failed {few}: 1 of 2 rows before wave 1 failed; it begins with --max-failed 1"]
-            wants((status, lines[1:], said) == (1, [], stopped), f"at {few} it ends with {status}, {lines} and {said}")
+            wants((status, lines[1:], said) == (6, [], stopped), f"at {few} it ends with {status}, {lines} and {said}")
         stays_silent(later, last)
         wants(rows_of(folder) == ["7,1,1,done", "7,1,2,live", "7,1,3,live", "7,1,4,failed"], f"the rows are {rows_of(folder)}")
         planned(folder, {number: (at[number], wave) for number, wave in ((1, 0), (2, 1), (3, 2), (4, 0))})

@@ -4,4 +4,5 @@ pub mod KeyPlaces
 pub mod Places
 pub mod Refusals
 pub mod Texts
+pub mod ToldPlaces
 pub mod TracePlaces

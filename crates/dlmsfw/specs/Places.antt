@@ -116,6 +116,11 @@ book_place_in fault name places = None
 abbrev pub book_place_of : Because Fault → BookPlaces → Option BookPlace
 book_place_of because places = book_place_in because.error (name_in because.reason) places
 
+-- the status that a fault of a book ends the program with: a rollout that stops since too many rows failed has one of its own
+abbrev pub book_status : Fault → ℕ
+book_status (TooManyFailed failed) = 6
+book_status fault = 1
+
 -- Of a store, a capture, keys and counters what is told is the reason that came with the fault, or nothing if none did.
 abbrev pub TellsReason : Option Place → Option Reason → Option Refusal → Type 0
 TellsReason (Some (Store file)) reason told = told ≡ reason_told reason

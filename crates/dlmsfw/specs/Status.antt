@@ -1,9 +1,10 @@
 -- The exit statuses of the program: 0 if its work is done, 1 at a fault, a refused event or files that don't fit, 2 at a wrong command line,
--- 4 where a row failed, 5 where rows aren't in the list, or a meter that is named has none.
+-- 4 where a row failed, 5 where rows aren't in the list, or a meter that is named has none, 6 where too many rows failed for the next wave.
 use Rattle.std.specs.Prelude.{◌≡◌, ◌≢◌, ℕ, ◌⊎◌, Result, Ok, Err}
 use Rattle.clap.specs.declared.error.kind.ErrorKind.{ErrorKind}
 use Rattle.clap.specs.declared.error.kind.ErrorKind.TheVariants.{DisplayHelp, DisplayVersion, OutOfMemory}
 use Rattle.clap.specs.Values.{kind_of}
+use Rattle.dlmsfw.specs.Places.{book_status}
 use Rattle.dlmsfw.specs.declared.Ending.{Ending}
 use Rattle.dlmsfw.specs.declared.Ending.TheVariants.{Fault, Capture, Trace, Answer, Meter, Book, Told, Keys, Audit, Refused, Departs, RowsFailed, RowsUnlisted, RowsLacking, CommandLine, NoText}
 
@@ -24,8 +25,8 @@ EndsWith (Capture path cause) status = status ≡ 1
 EndsWith (Trace ended reason places) status = status ≡ 1
 EndsWith (Answer because store) status = status ≡ 1
 EndsWith (Meter ended places) status = status ≡ 1
-EndsWith (Book because places input) status = status ≡ 1
-EndsWith (Told untold) status = status ≡ 1
+EndsWith (Book because places input) status = status ≡ book_status because.error
+EndsWith (Told untold shown) status = status ≡ 1
 EndsWith (Keys failure places input) status = status ≡ 1
 EndsWith (Audit ended list) status = status ≡ 1
 EndsWith Refused status = status ≡ 1

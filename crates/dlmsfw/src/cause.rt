@@ -2,12 +2,12 @@
 
 ghost use Rattle.std.specs.Prelude.{◌≡◌, ◌≢◌, MatchBool, None, Some};
 ghost use Rattle.std.specs.Option.{option_map};
-ghost use Rattle.dlmsfw.specs.Places.{TellsReason, TellsBookReason, answer_place_of, book_place_of, name_in, place_of, store_place_of};
+ghost use Rattle.dlmsfw.specs.Places.{TellsReason, TellsBookReason, answer_place_of, book_place_of, book_status, name_in, place_of, store_place_of};
 ghost use Rattle.dlmsfw.specs.Refusals.{reason_told};
 ghost use Rattle.dlmsfw.specs.Texts.{book_place_text, counter_text, file_text, place_text};
 
-use crate::refusal;
 use crate::refusal::Refusal;
+use crate::{FAULT, TOO_MANY_FAILED, refusal};
 use fw_cli::{
     CancelOptions, GiveUpOptions, HeadOptions, InputCause, MeterFault, MeterOptions, StatusOptions,
     SurveyOptions,
@@ -86,6 +86,17 @@ impl<'a> NamedFile<'a> {
             path,
             number: None,
             name: Name::Main,
+        }
+    }
+
+    /// The file that has this name beside the one at this path.
+    pub(crate) fn at(path: &'a str, name: Name) -> NamedFile<'a>
+        ensures { result ≡ record { path = path.entry; number = None; name = name } }
+    {
+        NamedFile {
+            path,
+            number: None,
+            name,
         }
     }
 }
@@ -488,6 +499,16 @@ pub(crate) fn book_place_of<'a>(
             name,
         })),
         _ => None,
+    }
+}
+
+/// The exit status of a fault of a book. A rollout that stops since too many rows failed has one of its own: another start doesn't mend it.
+pub(crate) fn book_status(fault: Fault) -> u8
+    ensures { result ≡ book_status fault }
+{
+    match fault {
+        Fault::TooManyFailed(_) => TOO_MANY_FAILED,
+        _ => FAULT,
     }
 }
 

@@ -5,8 +5,7 @@ ghost use Rattle.dlmsfw.specs.KeyPlaces.{key_place_of, key_place_text, TellsKeyR
 
 use crate::refusal;
 use crate::refusal::Refusal;
-use fw_cli::{InputCause, KeysFailure, KeysOptions};
-use fw_faults::Fault;
+use fw_cli::{InputCause, KeyMakingError, KeysFailure, KeysOptions};
 use fw_key_files::Owner;
 use std::fmt;
 use std::rt::Files;
@@ -55,9 +54,11 @@ impl fmt::Display for KeyPlace<'_> {
 pub(crate) fn place_of<'a>(failure: &KeysFailure, places: &KeyPlaces<'a>) -> Option<KeyPlace<'a>>
     ensures { result ≡ key_place_of failure.now places.now }
 {
-    match failure.fault {
-        Fault::ListFault | Fault::BadList(_) => Some(KeyPlace::Meters(places.meters)),
-        Fault::KeysFault => Some(KeyPlace::Made(places.folder, failure.owner?)),
+    match failure.error {
+        KeyMakingError::ListFault | KeyMakingError::BadList(_) => {
+            Some(KeyPlace::Meters(places.meters))
+        }
+        KeyMakingError::KeysFault => Some(KeyPlace::Made(places.folder, failure.owner?)),
         _ => None,
     }
 }
@@ -72,10 +73,10 @@ pub(crate) fn refusal_of(
 ) -> Option<Refusal>
     ensures { TellsKeyReason (key_place_of failure.now places.now) failure.now.reason result }
 {
-    match failure.fault {
-        Fault::KeysFault => refusal::of_reason(failure.reason),
-        Fault::ListFault => refusal::of_file(files, places.meters),
-        Fault::BadList(_) => refusal::of_input(input),
+    match failure.error {
+        KeyMakingError::KeysFault => refusal::of_reason(failure.reason),
+        KeyMakingError::ListFault => refusal::of_file(files, places.meters),
+        KeyMakingError::BadList(_) => refusal::of_input(input),
         _ => None,
     }
 }

@@ -1,7 +1,7 @@
 //! The program `dlmsfw`: its command line, its exit statuses, and the printing of its faults.
 #![tactic(auto)]
 
-ghost use Rattle.std.specs.Prelude.{◌≡◌, ◌≢◌, ℕ, [], IfErr, IfOk, IsErr, IsTrue, None, OnErr, OnOk, Some, false, is_some};
+ghost use Rattle.std.specs.Prelude.{◌≡◌, ℕ, [], IfErr, IfOk, IsErr, IsTrue, None, OnErr, OnOk, Some, false, is_some};
 ghost use Rattle.std.specs.Io.KnownBytes.{Keeps};
 ghost use Rattle.std.specs.Option.{option_map};
 ghost use Rattle.std.specs.Process.{exit_status};
@@ -12,12 +12,12 @@ ghost use Rattle.fw_cli.specs.Cancelling.{HasCancelled};
 ghost use Rattle.fw_cli.specs.GivingUp.{HasGivenUp};
 ghost use Rattle.fw_cli.specs.declared.give_up.GaveUp.TheVariants.{Each, NotEach};
 ghost use Rattle.fw_cli.specs.declared.head.LedOut.TheVariants.{NoneFailed, SomeFailed, SomeUnlisted};
-ghost use Rattle.fw_cli.specs.Faults.{IsOfTrace};
 ghost use Rattle.fw_cli.specs.Tracing.{AreOfFile};
 ghost use Rattle.fw_dissect.specs.Streams.{Dissects, TellsFront};
 ghost use Rattle.fw_disk.specs.declared.reason.Reason.{Reason};
+ghost use Rattle.dlmsfw.specs.Places.{book_status};
 ghost use Rattle.dlmsfw.specs.Status.{EndsAs, EndsParse, EndsWith};
-ghost use Rattle.dlmsfw.specs.TracePlaces.{trace_fault_of};
+ghost use Rattle.dlmsfw.specs.TracePlaces.{ComesAfterKeys, IsOfOutput};
 ghost use Rattle.dlmsfw.specs.declared.Ending.{Ending};
 
 mod audit_places;
@@ -34,16 +34,17 @@ use cause::{BookPlaces, MeterPlaces, NamedFile, Place};
 use clap::error::ErrorKind;
 use fw_auditor::{AuditEnd, AuditFault, AuditOptions, run_audit};
 use fw_cli::{
-    AnswerOptions, CancelFault, CancelOptions, Ended, GaveUp, GiveUpOptions, HeadOptions, HeadTold,
+    AnswerOptions, CancelFault, CancelOptions, Ended, GaveUp, GiveUpOptions, HeadOptions,
     InputCause, KeysFailure, KeysOptions, LedOut, LiveOptions, MeterFault, MeterOptions,
     NameOptions, RehearseOptions, ReplayOptions, StatusOptions, StoredOptions, SurveyOptions,
-    TraceKeys, head_cause, keys_cause, run_answer, run_answer_stored, run_cancel, run_give_up,
-    run_head, run_keys, run_live, run_meter, run_name, run_rehearse, run_replay, run_status,
-    run_survey, run_trace, survey_cause, trace_links,
+    ToldFiles, TraceError, TraceKeys, Untold, head_cause, keys_cause, run_answer,
+    run_answer_stored, run_cancel, run_give_up, run_head, run_keys, run_live, run_meter, run_name,
+    run_rehearse, run_replay, run_status, run_survey, run_trace, survey_cause, trace_links,
 };
 use fw_disk::{Because, Cause, Name, Reason};
 use fw_faults::Fault;
 use fw_host::ProgressOutput;
+use fw_key_files::KeyFileError;
 use fw_names::HeadId;
 use fw_seal::Link;
 use key_places::KeyPlaces;
@@ -61,7 +62,6 @@ use std::rt::{Clock, Env, Files};
 use std::sync::Wait;
 use std::thread::Threads;
 use std::{env, io};
-use told_files::{Untold, begin_told, metrics_at};
 use trace_places::{TraceFault, TracePlaces};
 
 /// The microseconds of a second.
@@ -82,6 +82,9 @@ const ROWS_FAILED: u8 = 4;
 /// The status of a head end of whose rows those alone are live whose meters aren't in its list.
 const ROWS_UNLISTED: u8 = 5;
 
+/// The status of a head end that began no wave, since too many rows of the earlier ones failed.
+const TOO_MANY_FAILED: u8 = 6;
+
 /// The status where a row was to be given up of a meter that has none.
 const ROWS_LACKING: u8 = 5;
 
@@ -100,8 +103,8 @@ enum Ending<'a> {
     Meter(MeterFault, MeterPlaces<'a>),
     /// A fault of a head end with this address and these files, or of the book that is read, and its cause, if the list or the book shows it.
     Book(Because<Fault>, BookPlaces<'a>, Option<InputCause>),
-    /// The file of events or of metrics of a head end can't be made, opened or written.
-    Told(Untold<'a>),
+    /// The file of events or of metrics of a head end can't be made, opened, read or written. What is shown of it has their paths.
+    Told(Untold, HeadShown<'a>),
     /// A fault of the making of keys from this list into this folder, and its cause, if the list shows it.
     Keys(KeysFailure, KeyPlaces<'a>, Option<InputCause>),
     /// A fault of the audit of what this list has.
@@ -120,12 +123,6 @@ enum Ending<'a> {
     CommandLine(clap::Error),
     /// A command line that isn't UTF-8 text.
     NoText,
-}
-
-impl<'a> From<Fault> for Ending<'a> {
-    fn from(fault: Fault) -> Ending<'a> {
-        Ending::Fault(fault)
-    }
 }
 
 fn main(rt: HostRuntime) -> ExitCode {
@@ -220,7 +217,10 @@ fn answer<'a, R: AllocGlobal + Input + Print>(
 ) -> Result<(), Ending<'a>> {
     let reader = &mut rt.reader();
     let writer = &mut io::writer(rt);
-    Ok(run_answer(rt.alloc(), reader, writer, &options)?)
+    match run_answer(rt.alloc(), reader, writer, &options) {
+        Ok(()) => Ok(()),
+        Err(error) => Err(Ending::Fault(Fault::from(error))),
+    }
 }
 
 /// `answer` over the store in a file.
@@ -243,7 +243,10 @@ fn name<'a, R: AllocGlobal + Input + Print>(
 ) -> Result<(), Ending<'a>> {
     let reader = &mut rt.reader();
     let writer = &mut io::writer(rt);
-    Ok(run_name(rt.alloc(), reader, writer, &options)?)
+    match run_name(rt.alloc(), reader, writer, &options) {
+        Ok(()) => Ok(()),
+        Err(error) => Err(Ending::Fault(Fault::from(error))),
+    }
 }
 
 /// `replay`, whose run may have a capture.
@@ -259,7 +262,7 @@ fn replay<'a, R: AllocGlobal + Files<File = File> + Input + Print, E: Eprint>(
     match run_replay(rt.alloc(), reader, writer, &mut capture, terminal, &options) {
         Ok(Ended::Refused) => Err(Ending::Refused),
         Ok(Ended::Whole) => Ok(()),
-        Err(fault) => Err(ending_of(fault, to)),
+        Err(error) => Err(ending_of(Fault::from(error), to)),
     }
 }
 
@@ -287,7 +290,7 @@ fn rehearse<
         &options,
     ) {
         Ok(()) => Ok(()),
-        Err(fault) => Err(ending_of(fault, to)),
+        Err(error) => Err(ending_of(Fault::from(error), to)),
     }
 }
 
@@ -315,7 +318,7 @@ fn live<
         &options,
     ) {
         Ok(()) => Ok(()),
-        Err(fault) => Err(ending_of(fault, to)),
+        Err(error) => Err(ending_of(Fault::from(error), to)),
     }
 }
 
@@ -327,7 +330,7 @@ fn trace_to_output<'a, R: AllocGlobal + Files<File = File> + Input + Print>(
     match links_of(rt, rt.alloc(), options.keys, options.head) {
         Ok(links) => trace_with(rt, &links, options),
         Err(because) => {
-            let ended = TraceFault::Ended(because.error);
+            let ended = TraceFault::Keys(because.error);
             Err(Ending::Trace(ended, because.reason, TracePlaces::of(options)))
         }
     }
@@ -339,7 +342,7 @@ fn links_of<F: Files<File = File>>(
     alloc: Global,
     keys: Option<&str>,
     head: Option<HeadId>,
-) -> Result<Vec<Link>, Because<Fault>>
+) -> Result<Vec<Link>, Because<KeyFileError>>
     ensures none { keys.entry ≡ None → IfOk result (λ links. links.items ≡ []) }
     ensures file { (number : ℕ) → IsTrue (is_some keys.entry) → head ≡ Some number → IfOk result (λ links. AreOfFile number links.items) }
 {
@@ -377,8 +380,8 @@ fn trace_with<'a, R: AllocGlobal + Files<File = File> + Input + Print>(
         Err(ended) => {
             let reason = match (ended, &plain) {
                 (TraceFault::Unopened(reason), _) => Some(reason),
-                (TraceFault::Ended(Fault::CaptureFault), Some(plain)) => plain.reason(),
-                (TraceFault::Ended(_), _) => None,
+                (TraceFault::Ended(TraceError::CaptureFault), Some(plain)) => plain.reason(),
+                (TraceFault::Keys(_) | TraceFault::Ended(_), _) => None,
             };
             Err(Ending::Trace(ended, reason, TracePlaces::of(options)))
         }
@@ -426,21 +429,20 @@ fn head<'a, R: AllocGlobal + Files<File = File> + Clock + Print + Eprint + Net +
 {
     let alloc = rt.alloc();
     let book = options.book.path;
-    let events = match begin_told(rt, alloc, options.head, book, shown) {
-        Ok(events) => events,
-        Err(untold) => return Err(Ending::Told(untold)),
-    };
-    let metrics = metrics_at(rt, alloc, options.head, book, shown.metrics);
-    let told = HeadTold {
-        events: events.as_ref(),
-        metrics,
+    let judged = ToldFiles::new(rt, alloc, options.head, book, shown.events, shown.metrics);
+    let mut files = match judged {
+        Ok(files) => files,
+        Err(untold) => return Err(Ending::Told(untold, shown)),
     };
     let writer = &mut io::writer(rt);
-    match run_head(rt, alloc, writer, progress, &told, options) {
+    match run_head(rt, alloc, writer, progress, &mut files, options) {
         Ok(LedOut::NoneFailed) => Ok(()),
         Ok(LedOut::SomeFailed) => Err(Ending::RowsFailed),
         Ok(LedOut::SomeUnlisted) => Err(Ending::RowsUnlisted),
         Err(because) => {
+            if let Some(untold) = &files.untold {
+                return Err(Ending::Told(*untold, shown));
+            }
             let input = head_cause(rt, alloc, options, because.error);
             let places = BookPlaces::of_head(options, shown.cancel);
             Err(Ending::Book(because, places, input))
@@ -498,7 +500,7 @@ fn keys<'a, R: AllocGlobal + Files<File = File> + Print + Net + RandomSource>(
     match run_keys(rt, rt.alloc(), writer, options) {
         Ok(()) => Ok(()),
         Err(failure) => {
-            let input = keys_cause(rt, rt.alloc(), options, failure.fault);
+            let input = keys_cause(rt, rt.alloc(), options, failure.error);
             Err(Ending::Keys(failure, KeyPlaces::of(options), input))
         }
     }
@@ -512,7 +514,13 @@ fn status<'a, R: AllocGlobal + Files<File = File> + Print + Eprint>(
     let writer = &mut io::writer(rt);
     match run_status(rt, rt.alloc(), writer, &options) {
         Ok(()) => Ok(()),
-        Err(because) => Err(Ending::Book(because, BookPlaces::of_status(&options), None)),
+        Err(because) => {
+            let because = Because {
+                error: Fault::from(because.error),
+                reason: because.reason,
+            };
+            Err(Ending::Book(because, BookPlaces::of_status(&options), None))
+        }
     }
 }
 
@@ -524,9 +532,10 @@ fn survey<'a, R: AllocGlobal + Files<File = File> + Clock + Print + Net + Wait>(
     let writer = &mut io::writer(rt);
     match run_survey(rt, rt.alloc(), writer, options) {
         Ok(()) => Ok(()),
-        Err(fault) => {
-            let input = survey_cause(rt, rt.alloc(), options, fault);
+        Err(error) => {
+            let input = survey_cause(rt, rt.alloc(), options, error);
             let places = BookPlaces::of_survey(options);
+            let fault = Fault::from(error);
             Err(Ending::Book(Because::from(fault), places, input))
         }
     }
@@ -585,15 +594,15 @@ fn trace<F: Files<File = File>, R: Read, W: Write, C: Write>(
         (W.contents writer.old) (W.contents writer.new) (option_map C.contents plain.old) (option_map C.contents plain.new)) }
 
     // Whatever ends it, what was told are the first records of standard input. Of a file nothing is known here.
-    ensures front { capture.entry ≡ None → IfErr result (λ e. trace_fault_of e ≢ Fault.Output
+    ensures front { capture.entry ≡ None → IfErr result (λ e. ¬ IsOfOutput e
         → TellsFront times links.now (R.remaining reader.old) (W.contents writer.old) (W.contents writer.new)) }
 
     // If a file is named, standard input isn't read.
     ensures file { IsTrue (is_some capture.entry) → R.remaining reader.new ≡ R.remaining reader.old }
     ensures unopened { (reason : Reason) → result ≡ Err (TraceFault.Unopened reason) → IsTrue (is_some capture.entry) }
     ensures silent { (reason : Reason) → result ≡ Err (TraceFault.Unopened reason) → Keeps (W.contents writer.old) (W.contents writer.new) }
-    ensures asked { result ≡ Err (TraceFault.Ended Fault.CaptureFault) → IsTrue (is_some plain.old) }
-    ensures faults { IfErr result (λ e. IsOfTrace (trace_fault_of e)) }
+    ensures asked { result ≡ Err (TraceFault.Ended TraceError.CaptureFault) → IsTrue (is_some plain.old) }
+    ensures keyed { IfErr result ComesAfterKeys }
 {
     let Some(path) = capture else {
         return Ok(run_trace(alloc, links, times, reader, writer, plain)?);
@@ -615,13 +624,12 @@ fn trace_file<W: Write, C: Write>(
     file: File,
     writer: &mut W,
     plain: &mut Option<C>,
-) -> Result<(), Fault>
-    ensures asked { result ≡ Err Fault.CaptureFault → IsTrue (is_some plain.old) }
-    ensures faults { IfErr result IsOfTrace }
+) -> Result<(), TraceError>
+    ensures { result ≡ Err TraceError.CaptureFault → IsTrue (is_some plain.old) }
 {
     match BufReader::new(alloc, file) {
         Ok(mut reader) => run_trace(alloc, links, times, &mut reader, writer, plain),
-        Err(_) => Err(Fault::OutOfMemory),
+        Err(_) => Err(TraceError::OutOfMemory),
     }
 }
 
@@ -660,14 +668,15 @@ fn report(rt: &(impl Print + Eprint + Net + Files), ending: Ending<'_>) -> ExitC
             let refusal = cause::refusal_of(rt, ended, place);
             fail_at(rt, ended.fault, place, refusal)
         }
-        Ending::Book(because, places, input) => {
-            let place = cause::book_place_of(&because, places);
-            let refusal = cause::book_refusal_of(rt, &because, place, input);
-            fail_at(rt, because.error, place, refusal)
-        }
-        Ending::Told(untold) => {
-            let refusal = Some(Refusal::File(untold.reason.cause));
-            fail_at(rt, Fault::Output, Some(untold.place), refusal)
+        Ending::Book(because, places, input) => fail_book(rt, &because, places, input),
+        Ending::Told(untold, shown) => {
+            let place = told_files::place_of(untold, shown);
+            fail_at(
+                rt,
+                Fault::Output,
+                place,
+                Some(Refusal::File(untold.reason.cause)),
+            )
         }
         Ending::Keys(failure, places, input) => fail_keys(rt, &failure, &places, input),
         Ending::Audit(ended, list) => fail_audit(rt, &ended, list),
@@ -683,6 +692,21 @@ fn report(rt: &(impl Print + Eprint + Net + Files), ending: Ending<'_>) -> ExitC
     }
 }
 
+/// Prints why a head end ended, or another command over a book, as `fail_at` does.
+fn fail_book(
+    rt: &(impl Eprint + Net + Files),
+    because: &Because<Fault>,
+    places: BookPlaces<'_>,
+    input: Option<InputCause>,
+) -> ExitCode
+    ensures { exit_status result ≡ book_status because.now.error }
+{
+    let place = cause::book_place_of(because, places);
+    let refusal = cause::book_refusal_of(rt, because, place, input);
+    tell_at(rt, because.error, place, refusal);
+    ExitCode::from(cause::book_status(because.error))
+}
+
 /// Prints why the making of keys ended, as `fail_at` does.
 fn fail_keys(
     rt: &(impl Eprint + Files),
@@ -692,7 +716,7 @@ fn fail_keys(
 ) -> ExitCode
     ensures { exit_status result ≡ 1 }
 {
-    let fault = failure.fault;
+    let fault = Fault::from(failure.error);
     let _ = eprintln!(rt; "dlmsfw: {fault}");
     let refusal = key_places::refusal_of(rt, failure, places, input);
     match key_places::place_of(failure, places) {
@@ -714,7 +738,7 @@ fn fail_audit(rt: &impl Eprint, ended: &AuditFault, list: &str) -> ExitCode
     ensures { exit_status result ≡ 1 }
 {
     let place = audit_places::place_of(ended, list);
-    fail_at(rt, ended.fault, place, refusal::of_reason(ended.reason))
+    fail_at(rt, ended.fault, place, audit_places::refusal_of(ended))
 }
 
 /// Prints what the parser of the command line ended with: the help, the version or what is wrong.
@@ -744,6 +768,17 @@ fn fail_at<F: Display + Drop, P: Display + Drop>(
 ) -> ExitCode
     ensures { exit_status result ≡ 1 }
 {
+    tell_at(rt, fault, place, refusal);
+    ExitCode::from(FAULT)
+}
+
+/// Prints the same lines.
+fn tell_at<F: Display + Drop, P: Display + Drop>(
+    rt: &impl Eprint,
+    fault: F,
+    place: Option<P>,
+    refusal: Option<Refusal>,
+) {
     let _ = eprintln!(rt; "dlmsfw: {fault}");
     match (place, refusal) {
         (Some(place), Some(refusal)) => {
@@ -754,7 +789,6 @@ fn fail_at<F: Display + Drop, P: Display + Drop>(
         }
         (None, _) => {}
     }
-    ExitCode::from(FAULT)
 }
 
 /// Prints the fault's name, and its cause on a second line if there is more to say. Returns its exit status.

@@ -85,6 +85,8 @@ enum WrongValue<'a> {
     NoCampaigns { option: &'static str, text: &'a str },
     /// The value of this option is no number of rows, nor one of rows in a hundred.
     NoThreshold { option: &'static str, text: &'a str },
+    /// The value of this option is no head end with its files.
+    NoHeadLog { option: &'static str, text: &'a str },
     /// The value of this option names no meters.
     NoMeters { option: &'static str, text: &'a str },
     /// Memory was refused.
@@ -122,6 +124,9 @@ impl WrongValue<'_> {
             WrongValue::NoThreshold { option, text } => format!(in alloc;
                 "invalid value '{text}' for '--{option} <N|N%>': it is neither a number from 0 to 4294967295 nor one from 0 to 100 with a % after it"
             ),
+            WrongValue::NoHeadLog { option, text } => format!(in alloc;
+                "invalid value '{text}' for '--{option} <ADDR,CAPTURE,BOOK>': it is no address with a port and two paths, with commas between them, as 127.0.0.1:4058,head.pcap,head.book"
+            ),
             WrongValue::NoMeters { option, text } => format!(in alloc;
                 "invalid value '{text}' for '--{option} <METERS>': it is no list of numbers and ranges of them, as 7,9-12, each a number from 0 to 4294967295"
             ),
@@ -132,7 +137,7 @@ impl WrongValue<'_> {
 
 /// What ends a short help.
 const STATUSES: &str = "\
-Exit status:
+Exit status (see more with '--help'):
   0  the command did all its work
   1  a fault: standard error has `dlmsfw: NAME`
   2  a wrong command line: standard error says what is wrong";
@@ -143,14 +148,15 @@ Limits:
   an image     16777216 bytes (16 MiB), in 16384 blocks of 1 to 1024 bytes
   a campaign   256 meters
   a script     16 head ends and 256 meters
-  input        67108864 bytes (64 MiB), but for a capture that is traced
+  input        67108864 bytes (64 MiB), but for a capture that is traced, and what is audited
 
 Exit status:
   0  the command did all its work
   1  a fault: standard error has `dlmsfw: NAME`
   2  a wrong command line: standard error says what is wrong
   4  `head` alone: no row is live, and a row failed
-  5  `head`: some rows aren't in the list, and no other is live; `give-up`: a meter had no live row";
+  5  `head`: some rows aren't in the list, and no other is live; `give-up`: a meter had no live row
+  6  `head` alone: too many rows failed for the next wave to begin";
 
 /// The command that the words of a command line ask for.
 ///

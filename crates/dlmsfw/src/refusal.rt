@@ -4,6 +4,7 @@
 ghost use Rattle.std.specs.Prelude.{◌≡◌};
 ghost use Rattle.dlmsfw.specs.Refusals.{input_told, reason_told, refusal_of};
 
+use fw_auditor::LineCause;
 use fw_cli::InputCause;
 use fw_disk::{Cause, Reason};
 use std::io::ErrorKind;
@@ -31,6 +32,8 @@ pub(crate) enum Refusal {
     File(Cause),
     /// What the list or the book holds.
     Input(InputCause),
+    /// What a line of the list of an audit holds.
+    Line(LineCause),
 }
 
 impl fmt::Display for Refusal {
@@ -45,6 +48,7 @@ impl fmt::Display for Refusal {
             Refusal::Other(kind) => return fmt::Display::fmt(kind, f),
             Refusal::File(cause) => return fmt::Display::fmt(cause, f),
             Refusal::Input(cause) => return fmt::Display::fmt(cause, f),
+            Refusal::Line(cause) => return fmt::Display::fmt(cause, f),
         })
     }
 }

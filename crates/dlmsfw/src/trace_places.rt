@@ -7,8 +7,11 @@ ghost use Rattle.dlmsfw.specs.declared.trace_places.TraceFault.TheVariants.{Ende
 use crate::options::TraceOptions;
 use crate::refusal;
 use crate::refusal::Refusal;
+use fw_cli::TraceError;
 use fw_disk::Reason;
 use fw_faults::Fault;
+use fw_host::fault_of_key_file;
+use fw_key_files::KeyFileError;
 use std::fmt;
 use std::rt::Files;
 
@@ -17,8 +20,10 @@ use std::rt::Files;
 pub(crate) enum TraceFault {
     /// The file that has the capture can't be opened, for this reason.
     Unopened(Reason),
+    /// The file of the keys isn't read.
+    Keys(KeyFileError),
     /// The command ended so.
-    Ended(Fault),
+    Ended(TraceError),
 }
 
 impl TraceFault {
@@ -28,16 +33,17 @@ impl TraceFault {
     {
         match self {
             TraceFault::Unopened(_) => Fault::CaptureFault,
-            TraceFault::Ended(fault) => fault,
+            TraceFault::Keys(error) => fault_of_key_file(error),
+            TraceFault::Ended(error) => Fault::from(error),
         }
     }
 }
 
-impl From<Fault> for TraceFault {
-    ghost from_gives = { λ fault ended. ended ≡ Ended fault };
+impl From<TraceError> for TraceFault {
+    ghost from_gives = { λ error ended. ended ≡ Ended error };
 
-    fn from(fault: Fault) -> TraceFault {
-        TraceFault::Ended(fault)
+    fn from(error: TraceError) -> TraceFault {
+        TraceFault::Ended(error)
     }
 }
 
@@ -92,14 +98,14 @@ pub(crate) fn place_of<'a>(ended: TraceFault, places: TracePlaces<'a>) -> Option
     ensures { result ≡ trace_place_of ended places.entry }
 {
     match ended {
-        TraceFault::Unopened(_) | TraceFault::Ended(Fault::Input) => {
+        TraceFault::Unopened(_) | TraceFault::Ended(TraceError::Input) => {
             Some(TracePlace::Capture(places.capture?))
         }
-        TraceFault::Ended(Fault::KeysFault | Fault::KeysReadable | Fault::BadKeys(_, _)) => {
-            Some(TracePlace::Keys(places.keys?))
-        }
-        TraceFault::Ended(Fault::CaptureFault) => Some(TracePlace::Plain(places.plain?)),
-        TraceFault::Ended(_) => None,
+        TraceFault::Keys(
+            KeyFileError::KeysFault | KeyFileError::KeysReadable | KeyFileError::BadKeys(_, _),
+        ) => Some(TracePlace::Keys(places.keys?)),
+        TraceFault::Ended(TraceError::CaptureFault) => Some(TracePlace::Plain(places.plain?)),
+        TraceFault::Keys(_) | TraceFault::Ended(_) => None,
     }
 }
 

@@ -1,1 +1,2 @@
 mod Fitted
+mod Ending

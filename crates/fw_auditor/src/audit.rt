@@ -1,13 +1,15 @@
 //! The command `audit`: whether what is found of meters is what meters do.
 
-ghost use Rattle.std.specs.Prelude.{◌≡◌, [], IfOk, OnOk};
+ghost use Rattle.std.specs.Prelude.{◌≡◌, [], false, IfOk, OnOk};
 ghost use Rattle.std.specs.List.{AllZip};
+ghost use Rattle.std.specs.Vec.{vec_len};
 ghost use Rattle.fw_auditor.specs.Fitting.{AllFit};
-ghost use Rattle.fw_auditor.specs.Private.{Counts, FitsAs, IsFoundSomehow};
+ghost use Rattle.fw_auditor.specs.Private.{Counts, CountsFound, FitsAs, FleetFits, IsFoundSomehow};
 
 use crate::books::{books_in, tell_rows};
 use crate::error::Unaudited;
-use crate::files::{AuditFault, FoundFiles, StoreFiles, bytes_of, found_files, journal_path};
+use crate::field::tell_field;
+use crate::files::{AuditFault, FoundStores, StoreFiles, bytes_of, found_stores, journal_path};
 use crate::lines::{AuditForm, append_end, append_file, write_text};
 use crate::list::{Subject, subjects_in};
 use crate::options::AuditOptions;
@@ -52,15 +54,15 @@ impl Tally {
     }
 
     /// Counts a meter of which this is said. After an error it is unspecified.
-    fn count(&mut self, verdict: Verdict) -> Result<(), AllocError>
-        ensures { OnOk result (Counts self.old verdict self.new) }
+    fn count(&mut self, verdict: Verdict<'_>) -> Result<(), AllocError>
+        ensures { OnOk result (Counts self.old verdict.entry self.new) }
     {
         match verdict {
-            Verdict::Fits(meter) => {
+            Verdict::Fits(meter, _log) => {
                 self.meters.push(meter)?;
                 Ok(())
             }
-            Verdict::NotOffered(meter) => {
+            Verdict::NotOffered(meter, _log) => {
                 self.departed = self.departed.saturating_add(1);
                 self.meters.push(meter)?;
                 Ok(())
@@ -74,17 +76,22 @@ impl Tally {
 }
 
 /// Audits each meter of a list by its capture, its store and the one that it began from, and with books what each of them switched to and the
-/// rows of these that are done. Files are read alone: none is locked, made or written, and what a power cut left of a store is put right in
-/// memory.
+/// rows of these that are done. With the captures of head ends it also audits what each of these sent, and whether its book's done rows were
+/// claimed to it, and whether all that came to an end was sent before by the end whose address it shows. Files are read alone: none is locked,
+/// made or written, and what a power cut left of a store is put right in memory.
 ///
 /// The writer gets a line for each file with its SHA-256, and one for a capture of which what a write left that was cut short is left out. For
 /// each meter it gets one that says that its capture and its store fit, with one for each image that it switched to, or one that says what
-/// doesn't; with books one for a switch that they don't offer, and last one for each book that has a row done which no meter bears out. The
-/// last line says whether all fits. The lines of a meter are flushed together.
+/// doesn't; with books one for a switch that they don't offer, and then one for each book that has a row done which no meter bears out. With
+/// head ends there follow the lines of each, and that of the order of all, or of where there is none. The last line says whether all fits. The
+/// lines of an end are flushed together.
+///
+/// With head ends all captures are in memory at once, each file once, and else that of one meter.
 ///
 /// # Errors
 ///
-/// With a file that can't be read stand its path and why, if that is known. The meters before the one whose file it is were told.
+/// With a file that can't be read stand its path and why, if that is known. The meters before the one whose file it is were told, but for a
+/// capture if there are head ends.
 ///
 /// - `ListFault`: the list can't be read, or is no text. `BadList`: this line is none of it.
 /// - `BookFault`: the file of a book can't be read. `BadBook`, `BadRecord`: it holds no book.
@@ -101,32 +108,62 @@ pub fn run_audit<F: Files<File = File>, W: Write>(
     // Of the files nothing is known here, so what they hold is some.
     ensures { IfOk result (λ end. end ≡ AuditEnd.Fits → AllFit options.now) }
 {
-    fw_fleet_audit::laws::headline_by_looking();
     let list = bytes_of(rt, alloc, options.audited, Unaudited::ListFault)?;
     let subjects = subjects_in(alloc, &list)?;
     let factory = factory_of(rt, alloc, options.fresh.factory_file)?;
-    let books = books_in(rt, alloc, writer, options.report, &options.books)?;
+    let books = books_in(rt, alloc, writer, options)?;
     let given = Given {
         options,
         subjects,
         factory,
         books,
     };
-    let found = tell_meters(rt, alloc, writer, &given, &given.subjects)?;
+    let departed = tell_all(rt, alloc, writer, &given)?;
+    tell_end(alloc, writer, options.report, departed)
+}
+
+/// Audits all that is given, and writes the lines. It returns how many don't fit.
+fn tell_all<F: Files<File = File>, W: Write>(
+    rt: &F,
+    alloc: Global,
+    writer: &mut W,
+    given: &Given<'_, '_>,
+) -> Result<u64, AuditFault>
+    ensures { IfOk result (λ departed. departed ≡ 0 → AllFit given.now.options.now) }
+{
+    fw_fleet_audit::laws::headline_by_looking();
+    if has_heads(given.options) {
+        return tell_field(rt, alloc, writer, given);
+    }
+    tell_fleet(rt, alloc, writer, given)
+}
+
+/// Whether there are head ends to be audited.
+fn has_heads(options: &AuditOptions<'_>) -> bool
+    ensures { result ≡ false → vec_len options.now.head_logs ≡ 0 }
+{
+    !options.head_logs.is_empty()
+}
+
+/// Audits all meters, and the rows of books by these, and writes their lines. It returns how many of both don't fit.
+fn tell_fleet<F: Files<File = File>, W: Write>(
+    rt: &F,
+    alloc: Global,
+    writer: &mut W,
+    given: &Given<'_, '_>,
+) -> Result<u64, AuditFault>
+    ensures { IfOk result (λ departed. departed ≡ 0 → FleetFits given.now) }
+{
+    let found = tell_meters(rt, alloc, writer, given, &given.subjects)?;
     let rows = tell_rows(
         alloc,
         writer,
-        options.report,
+        given.options.report,
         &given.books.paths,
         &given.books.books,
         &found.meters,
     )?;
-    tell_end(
-        alloc,
-        writer,
-        options.report,
-        found.departed.saturating_add(rows),
-    )
+    Ok(found.departed.saturating_add(rows))
 }
 
 /// Writes the last line.
@@ -160,7 +197,7 @@ fn factory_of<F: Files<File = File>>(
     }
 }
 
-/// Audits these meters, and writes their lines.
+/// Audits these meters, and writes their lines. The capture of each is let go before the next one is read.
 fn tell_meters<F: Files<File = File>, W: Write>(
     rt: &F,
     alloc: Global,
@@ -172,26 +209,50 @@ fn tell_meters<F: Files<File = File>, W: Write>(
 {
     let mut tally = Tally::new(alloc);
     for at in 0..subjects.len() {
-        let verdict = tell_meter(rt, alloc, writer, given, &subjects[at])?;
-        tally.count(verdict)?;
+        count_meter(rt, alloc, writer, given, &subjects[at], &mut tally)?;
     }
     Ok(tally)
 }
 
-/// Audits a meter, and writes its lines.
-fn tell_meter<F: Files<File = File>, W: Write>(
+/// Audits a meter, writes its lines and counts it. After an error the tally is unspecified.
+fn count_meter<F: Files<File = File>, W: Write>(
     rt: &F,
     alloc: Global,
     writer: &mut W,
     given: &Given<'_, '_>,
     subject: &Subject<'_>,
-) -> Result<Verdict, AuditFault>
-    ensures { IfOk result (IsFoundSomehow given.now subject.now) }
+    tally: &mut Tally,
+) -> Result<(), AuditFault>
+    ensures { OnOk result (CountsFound given.now subject.now tally.old tally.new) }
 {
-    let files = found_files(rt, alloc, subject)?;
+    let capture = bytes_of(rt, alloc, subject.capture, Unaudited::CaptureFault)?;
+    let verdict = tell_meter(rt, alloc, writer, given, subject, &capture)?;
+    tally.count(verdict)?;
+    Ok(())
+}
+
+/// Audits a meter with this capture, and writes its lines.
+pub(crate) fn tell_meter<'c, F: Files<File = File>, W: Write>(
+    rt: &F,
+    alloc: Global,
+    writer: &mut W,
+    given: &Given<'_, '_>,
+    subject: &Subject<'_>,
+    capture: &'c [u8],
+) -> Result<Verdict<'c>, AuditFault>
+    ensures { IfOk result (IsFoundSomehow given.now subject.now capture.now) }
+{
+    let stores = found_stores(rt, alloc, subject)?;
     let mut text = String::new(alloc);
-    append_files(alloc, &mut text, given.options.report, subject, &files)?;
-    let verdict = append_judged(alloc, &mut text, given, subject, files)?;
+    append_files(
+        alloc,
+        &mut text,
+        given.options.report,
+        subject,
+        capture,
+        &stores,
+    )?;
+    let verdict = append_judged(alloc, &mut text, given, subject, stores, capture)?;
     write_text(writer, text.as_str())?;
     Ok(verdict)
 }
@@ -202,21 +263,15 @@ fn append_files(
     text: &mut String,
     form: AuditForm,
     subject: &Subject<'_>,
-    files: &FoundFiles,
+    capture: &[u8],
+    stores: &FoundStores,
 ) -> Result<(), AllocError> {
-    append_file(
-        alloc,
-        text,
-        form,
-        "capture",
-        subject.capture,
-        &files.capture,
-    )?;
-    match (subject.began, &files.began) {
+    append_file(alloc, text, form, "capture", subject.capture, capture)?;
+    match (subject.began, &stores.began) {
         (Some(path), Some(began)) => append_store(alloc, text, form, path, began)?,
         _ => {}
     }
-    append_store(alloc, text, form, subject.store, &files.store)
+    append_store(alloc, text, form, subject.store, &stores.last)
 }
 
 /// Appends the lines of a store and of the undo file beside it, if one is there.

@@ -43,36 +43,30 @@ pub(crate) struct StoreFiles {
     pub(crate) journal: Option<Vec<u8>>,
 }
 
-/// What is found of a meter.
+/// The stores that are found of a meter.
 #[derive(Drop)]
-pub(crate) struct FoundFiles {
-    pub(crate) capture: Vec<u8>,
-    pub(crate) store: StoreFiles,
+pub(crate) struct FoundStores {
+    pub(crate) last: StoreFiles,
     /// The store that it began from, if it didn't begin new.
     pub(crate) began: Option<StoreFiles>,
 }
 
-/// What the files of a meter hold.
+/// What the stores of a meter hold.
 ///
 /// # Errors
 ///
-/// `CaptureFault` or `StoreFault`, with the file and why it can't be read, and `OutOfMemory`.
-pub(crate) fn found_files<F: Files<File = File>>(
+/// `StoreFault`, with the file and why it can't be read, and `OutOfMemory`.
+pub(crate) fn found_stores<F: Files<File = File>>(
     rt: &F,
     alloc: Global,
     subject: &Subject<'_>,
-) -> Result<FoundFiles, AuditFault> {
-    let capture = bytes_of(rt, alloc, subject.capture, Unaudited::CaptureFault)?;
-    let store = store_files(rt, alloc, subject.store)?;
+) -> Result<FoundStores, AuditFault> {
+    let last = store_files(rt, alloc, subject.store)?;
     let began = match subject.began {
         Some(path) => Some(store_files(rt, alloc, path)?),
         None => None,
     };
-    Ok(FoundFiles {
-        capture,
-        store,
-        began,
-    })
+    Ok(FoundStores { last, began })
 }
 
 /// The bytes of the store at this path, and those beside it.

@@ -5,7 +5,8 @@ use fw_audit::{LogItem, Rule};
 use fw_capture::CaptureFault;
 use fw_evidence::{Audited, Mark, Stray};
 use fw_fleet_audit::{RowRule, SwitchRule};
-use fw_names::{CampaignId, ImageName, MeterId, digest_of};
+use fw_names::{CampaignId, HeadId, ImageName, MeterId, digest_of};
+use fw_order::OrderRule;
 use fw_rows::head_number;
 use serde_json::{Value, json};
 use std::alloc::{AllocError, Global};
@@ -18,6 +19,15 @@ pub enum AuditForm {
     Lines,
     /// An object of JSON in each line.
     Json,
+}
+
+/// Whose a record is.
+#[derive(Clone, Copy)]
+pub(crate) enum Whose {
+    /// This meter's.
+    Meter(MeterId),
+    /// That of the head end of this number, and of 0, if its book has no record.
+    Head(u32),
 }
 
 /// Writes a text, and flushes it.
@@ -140,51 +150,95 @@ fn append_activated(
     }
 }
 
-/// Appends the line of a record that breaks a rule, or is none of the meter's, and why.
+/// Appends the line of a record of a capture that breaks a rule for an end, or is none of its process, and why.
 pub(crate) fn append_record(
     alloc: Global,
     text: &mut String,
     form: AuditForm,
     rule: &str,
     path: &str,
+    whose: Whose,
     mark: Mark,
     why: &str,
 ) -> Result<(), AllocError> {
     let Mark { number, offset } = mark;
     match form {
-        AuditForm::Lines => write!(text, "departs {rule} {path} {number} {offset}: {why}\n"),
+        AuditForm::Lines => {
+            write!(text, "departs {rule} {path} {number} {offset} ")?;
+            append_whose(text, whose)?;
+            write!(text, ": {why}\n")
+        }
         AuditForm::Json => {
-            let value = json!(in alloc; {
-                "departs": rule,
-                "offset": offset,
-                "path": path,
-                "record": number,
-                "why": why,
-            })?;
+            let record = number;
+            let value = match whose {
+                Whose::Meter(meter) => json!(in alloc; {
+                    "departs": rule,
+                    "meter": meter.number(),
+                    "offset": offset,
+                    "path": path,
+                    "record": record,
+                    "why": why,
+                })?,
+                Whose::Head(head) => json!(in alloc; {
+                    "departs": rule,
+                    "head": head,
+                    "offset": offset,
+                    "path": path,
+                    "record": record,
+                    "why": why,
+                })?,
+            };
             append_object(alloc, text, &value)
         }
     }
 }
 
-/// Appends the line of a capture that can't be read on at an offset.
+/// Appends whose a record is.
+fn append_whose(text: &mut String, whose: Whose) -> Result<(), AllocError> {
+    match whose {
+        Whose::Meter(meter) => {
+            let number = meter.number();
+            write!(text, "meter {number}")
+        }
+        Whose::Head(number) => write!(text, "head {number}"),
+    }
+}
+
+/// Appends the line of the capture of an end that can't be read on at an offset.
 pub(crate) fn append_fault(
     alloc: Global,
     text: &mut String,
     form: AuditForm,
     path: &str,
+    whose: Whose,
     fault: CaptureFault,
     offset: usize,
 ) -> Result<(), AllocError> {
     let rule = fault_name(fault);
+    let why = "no record stands there";
     match form {
         AuditForm::Lines => {
-            write!(
-                text,
-                "departs {rule} {path} {offset}: no record stands there\n"
-            )
+            write!(text, "departs {rule} {path} {offset} ")?;
+            append_whose(text, whose)?;
+            write!(text, ": {why}\n")
         }
         AuditForm::Json => {
-            let value = json!(in alloc; {"departs": rule, "offset": offset, "path": path})?;
+            let value = match whose {
+                Whose::Meter(meter) => json!(in alloc; {
+                    "departs": rule,
+                    "meter": meter.number(),
+                    "offset": offset,
+                    "path": path,
+                    "why": why,
+                })?,
+                Whose::Head(head) => json!(in alloc; {
+                    "departs": rule,
+                    "head": head,
+                    "offset": offset,
+                    "path": path,
+                    "why": why,
+                })?,
+            };
             append_object(alloc, text, &value)
         }
     }
@@ -233,18 +287,24 @@ pub(crate) fn append_switch(
     }
 }
 
-/// Appends the line of a row of a book that no meter bears out.
+/// The row of a meter in a campaign of a book.
+#[derive(Clone, Copy)]
+pub(crate) struct ToldRow {
+    pub(crate) campaign: CampaignId,
+    pub(crate) meter: MeterId,
+}
+
+/// Appends the line of a row of a book that is done and breaks a rule, and why.
 pub(crate) fn append_row(
     alloc: Global,
     text: &mut String,
     form: AuditForm,
+    rule: &str,
     path: &str,
-    campaign: CampaignId,
-    meter: MeterId,
-    broken: RowRule,
+    row: ToldRow,
+    why: &str,
 ) -> Result<(), AllocError> {
-    let rule = row_name(broken);
-    let why = row_why(broken);
+    let ToldRow { campaign, meter } = row;
     let (head, serial, number) = (head_number(campaign), campaign.serial(), meter.number());
     match form {
         AuditForm::Lines => {
@@ -261,7 +321,53 @@ pub(crate) fn append_row(
     }
 }
 
-/// Appends the last line: so many meters and books don't fit.
+/// Appends the line of a head end whose capture fits, with so many datagrams and starts.
+pub(crate) fn append_head(
+    alloc: Global,
+    text: &mut String,
+    form: AuditForm,
+    head: HeadId,
+    items: &[LogItem<'_>],
+) -> Result<(), AllocError> {
+    let number = head.number();
+    let (datagrams, starts) = (count_datagrams(items), count_starts(items));
+    match form {
+        AuditForm::Lines => {
+            write!(
+                text,
+                "head {number} ok {datagrams} datagrams {starts} starts\n"
+            )
+        }
+        AuditForm::Json => {
+            let value = json!(in alloc; {
+                "datagrams": datagrams,
+                "head": number,
+                "ok": true,
+                "starts": starts,
+            })?;
+            append_object(alloc, text, &value)
+        }
+    }
+}
+
+/// Appends the line of an order of all that so many ends did, to which so many datagrams came from others.
+pub(crate) fn append_order(
+    alloc: Global,
+    text: &mut String,
+    form: AuditForm,
+    ends: usize,
+    others: usize,
+) -> Result<(), AllocError> {
+    match form {
+        AuditForm::Lines => write!(text, "order ok {ends} ends {others} others\n"),
+        AuditForm::Json => {
+            let value = json!(in alloc; {"ends": ends, "ok": true, "others": others})?;
+            append_object(alloc, text, &value)
+        }
+    }
+}
+
+/// Appends the last line: so many meters, books, head ends and orders don't fit.
 pub(crate) fn append_end(
     alloc: Global,
     text: &mut String,
@@ -305,13 +411,17 @@ pub(crate) fn rule_why(rule: Rule) -> &'static str {
     }
 }
 
-/// The name of why a record is of no meter of its process.
+/// The name of why a record is of no end of its process.
 pub(crate) fn stray_name(rule: Stray) -> &'static str {
     match rule {
         Stray::NoEntry => "NoEntry",
         Stray::Elsewhere => "Elsewhere",
         Stray::ToItself => "ToItself",
         Stray::UnnamedTurn => "UnnamedTurn",
+        Stray::StartedAsHead => "StartedAsHead",
+        Stray::OtherHeads => "OtherHeads",
+        Stray::StartedAsMeter => "StartedAsMeter",
+        Stray::NoteOfMeter => "NoteOfMeter",
     }
 }
 
@@ -319,9 +429,13 @@ pub(crate) fn stray_name(rule: Stray) -> &'static str {
 pub(crate) fn stray_why(rule: Stray) -> &'static str {
     match rule {
         Stray::NoEntry => "it is neither a datagram nor a note",
-        Stray::Elsewhere => "it is of another address than the meters'",
-        Stray::ToItself => "both its addresses are the meters'",
+        Stray::Elsewhere => "it is of another address than those of its process",
+        Stray::ToItself => "both its addresses are those of its process",
         Stray::UnnamedTurn => "a turn, and of which of the meters isn't known",
+        Stray::StartedAsHead => "a head end started, and no meter",
+        Stray::OtherHeads => "others could ask the meter than the addresses of --head",
+        Stray::StartedAsMeter => "meters started, and no head end",
+        Stray::NoteOfMeter => "a note of a meter, and none of a head end",
     }
 }
 
@@ -346,7 +460,7 @@ fn switch_why(rule: SwitchRule) -> &'static str {
 }
 
 /// The name of a rule of rows.
-fn row_name(rule: RowRule) -> &'static str {
+pub(crate) fn row_name(rule: RowRule) -> &'static str {
     match rule {
         RowRule::NotAudited => "NotAudited",
         RowRule::DoneNotActivated => "DoneNotActivated",
@@ -354,10 +468,26 @@ fn row_name(rule: RowRule) -> &'static str {
 }
 
 /// What breaks it.
-fn row_why(rule: RowRule) -> &'static str {
+pub(crate) fn row_why(rule: RowRule) -> &'static str {
     match rule {
         RowRule::NotAudited => "its meter isn't audited, or doesn't fit",
         RowRule::DoneNotActivated => "its meter didn't switch to the image",
+    }
+}
+
+/// The name of a rule of orders.
+pub(crate) fn order_name(rule: OrderRule) -> &'static str {
+    match rule {
+        OrderRule::NeverSent => "NeverSent",
+        OrderRule::SentLater => "SentLater",
+    }
+}
+
+/// What breaks it.
+pub(crate) fn order_why(rule: OrderRule) -> &'static str {
+    match rule {
+        OrderRule::NeverSent => "no end with the address that it shows sends it there",
+        OrderRule::SentLater => "it is sent only after something that needs it",
     }
 }
 

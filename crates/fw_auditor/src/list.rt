@@ -3,8 +3,9 @@
 //! none in a path. Empty lines say nothing.
 
 ghost use Rattle.std.specs.Prelude.{◌≡◌, ◌⊎◌, ℕ, IfErr};
+ghost use Rattle.fw_auditor.specs.declared.error.LineCause.{LineCause as TheCause};
 
-use crate::error::Unaudited;
+use crate::error::{LineCause, Unaudited};
 use fw_names::MeterId;
 use std::alloc::Global;
 use std::net::SocketAddr;
@@ -12,6 +13,8 @@ use std::net::SocketAddr;
 /// A meter that is audited.
 #[derive(Clone, Copy)]
 pub(crate) struct Subject<'a> {
+    /// The number of its line, counted from 1.
+    line: u64,
     pub(crate) meter: MeterId,
     /// The address at which it receives.
     pub(crate) address: SocketAddr,
@@ -28,10 +31,11 @@ pub(crate) struct Subject<'a> {
 /// # Errors
 ///
 /// - `ListFault`: the list is no text.
-/// - `BadList`: this line has no meter's number, address and paths, or an earlier line has its number.
+/// - `BadList`: this line has no meter's number, address and paths, or an earlier line has its number, as the cause says.
 /// - `OutOfMemory`.
 pub(crate) fn subjects_in(alloc: Global, list: &[u8]) -> Result<Vec<Subject<'_>>, Unaudited>
-    ensures faults { IfErr result (λ f. (f ≡ Unaudited.ListFault) ⊎ ((f ≡ Unaudited.OutOfMemory) ⊎ ((line : ℕ) × (f ≡ Unaudited.BadList line)))) }
+    ensures faults { IfErr result (λ f. (f ≡ Unaudited.ListFault) ⊎ ((f ≡ Unaudited.OutOfMemory)
+        ⊎ ((line : ℕ) × (why : TheCause) × (f ≡ Unaudited.BadList line why)))) }
 {
     let Ok(text) = str::from_utf8(list) else {
         return Err(Unaudited::ListFault);
@@ -41,11 +45,12 @@ pub(crate) fn subjects_in(alloc: Global, list: &[u8]) -> Result<Vec<Subject<'_>>
     for line in text.lines() {
         number = number.saturating_add(1);
         if !line.is_empty() {
-            let Some(subject) = subject_in(line) else {
-                return Err(Unaudited::BadList(number));
+            let subject = match subject_in(number, line) {
+                Ok(subject) => subject,
+                Err(why) => return Err(Unaudited::BadList(number, why)),
             };
-            if has(&subjects, subject.meter) {
-                return Err(Unaudited::BadList(number));
+            if let Some(first) = line_of(&subjects, subject.meter) {
+                return Err(Unaudited::BadList(number, LineCause::NumberTwice(first)));
             }
             if subjects.push(subject).is_err() {
                 return Err(Unaudited::OutOfMemory);
@@ -55,16 +60,17 @@ pub(crate) fn subjects_in(alloc: Global, list: &[u8]) -> Result<Vec<Subject<'_>>
     Ok(subjects)
 }
 
-/// The meter of a line, if it has the fields of one.
-fn subject_in(line: &str) -> Option<Subject<'_>> {
-    let (number, rest) = line.split_once(',')?;
-    let (address, rest) = rest.split_once(',')?;
-    let (capture, rest) = rest.split_once(',')?;
+/// The meter of the line of this number, if it has the fields of one.
+fn subject_in(at: u64, line: &str) -> Result<Subject<'_>, LineCause> {
+    let (number, rest) = field_of(line)?;
+    let (address, rest) = field_of(rest)?;
+    let (capture, rest) = field_of(rest)?;
     let (store, began) = match rest.split_once(',') {
         Some((store, began)) => (store, Some(path_in(began)?)),
         None => (rest, None),
     };
-    Some(Subject {
+    Ok(Subject {
+        line: at,
         meter: meter_of(number)?,
         address: address_of(address)?,
         capture: path_in(capture)?,
@@ -73,36 +79,50 @@ fn subject_in(line: &str) -> Option<Subject<'_>> {
     })
 }
 
+/// The first field of a line, of which another follows, and what stands behind it.
+fn field_of(line: &str) -> Result<(&str, &str), LineCause> {
+    match line.split_once(',') {
+        Some(both) => Ok(both),
+        None => Err(LineCause::FewFields),
+    }
+}
+
 /// The meter of a number.
-fn meter_of(text: &str) -> Option<MeterId> {
+fn meter_of(text: &str) -> Result<MeterId, LineCause> {
     match text.parse::<u32>() {
-        Ok(number) => MeterId::new(number),
-        Err(_) => None,
+        Ok(number) => match MeterId::new(number) {
+            Some(meter) => Ok(meter),
+            None => Err(LineCause::NoNumber),
+        },
+        Err(_) => Err(LineCause::NoNumber),
     }
 }
 
 /// The address that a text spells.
-fn address_of(text: &str) -> Option<SocketAddr> {
+pub(crate) fn address_of(text: &str) -> Result<SocketAddr, LineCause> {
     match text.parse::<SocketAddr>() {
-        Ok(address) => Some(address),
-        Err(_) => None,
+        Ok(address) => Ok(address),
+        Err(_) => Err(LineCause::NoAddress),
     }
 }
 
 /// The path in a last or only field.
-fn path_in(text: &str) -> Option<&str> {
-    if text.is_empty() || text.contains(',') {
-        return None;
+pub(crate) fn path_in(text: &str) -> Result<&str, LineCause> {
+    if text.is_empty() {
+        Err(LineCause::NoPath)
+    } else if text.contains(',') {
+        Err(LineCause::MoreFields)
+    } else {
+        Ok(text)
     }
-    Some(text)
 }
 
-/// Whether a meter is among these.
-fn has(subjects: &[Subject<'_>], meter: MeterId) -> bool {
+/// The line of a meter, if it is among these.
+fn line_of(subjects: &[Subject<'_>], meter: MeterId) -> Option<u64> {
     for at in 0..subjects.len() {
         if subjects[at].meter == meter {
-            return true;
+            return Some(subjects[at].line);
         }
     }
-    false
+    None
 }

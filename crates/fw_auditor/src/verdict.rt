@@ -1,23 +1,25 @@
 //! What is said of a meter by what its files hold.
 
-ghost use Rattle.std.specs.Prelude.{◌≡◌, ◌++◌, IfOk, OnOk, option_to_list};
+ghost use Rattle.std.specs.Prelude.{◌≡◌, ◌+◌, ◌++◌, IfOk, IsTrue, OnOk, option_to_list};
+ghost use Rattle.std.specs.Vec.{vec_len};
 ghost use Rattle.fw_store.specs.Setup.{IsCapacity};
 ghost use Rattle.fw_auditor.specs.Fitting.{IsWholePart};
-ghost use Rattle.fw_auditor.specs.Private.{BeginsAs, HasFit, Holds, IsCompared, IsFound, beside, others_of};
+ghost use Rattle.fw_auditor.specs.Private.{AreCompared, BeginsAs, HasFit, Holds, IsCompared, IsFound, beside, others_of};
 
 use crate::books::Books;
 use crate::error::Unaudited;
-use crate::files::{AuditFault, FoundFiles, StoreFiles};
+use crate::files::{AuditFault, FoundStores, StoreFiles};
 use crate::lines::{
-    AuditForm, append_cut, append_fault, append_fits, append_misfit, append_record, append_switch,
-    rule_name, rule_why, stray_name, stray_why,
+    AuditForm, Whose, append_cut, append_fault, append_fits, append_misfit, append_record,
+    append_switch, rule_name, rule_why, stray_name, stray_why,
 };
 use crate::list::Subject;
 use crate::options::{AuditOptions, FreshMeter};
 use fw_audit::Switched;
 use fw_capture::whole_len;
 use fw_evidence::{
-    EvidenceError, LogError, Site, StoreRefusal, audit_capture, meter_at_rest, new_meter,
+    Audited, EvidenceError, Log, LogError, Side, Site, StoreRefusal, audit_capture, meter_at_rest,
+    new_meter, read_log,
 };
 use fw_fleet_audit::{AuditedMeter, audit_switches};
 use fw_meter::MeterCore;
@@ -36,33 +38,30 @@ pub(crate) struct Given<'o, 'a> {
     pub(crate) books: Books<'a>,
 }
 
-/// What is said of a meter. What rows of books are compared with stands with it.
+/// What is said of a meter. What rows of books are compared with stands with it, and its log.
 #[derive(Drop)]
-pub(crate) enum Verdict {
+pub(crate) enum Verdict<'c> {
     /// All fits.
-    Fits(AuditedMeter),
+    Fits(AuditedMeter, Log<'c>),
     /// Its capture and its store fit, and books don't offer what it switched to.
-    NotOffered(AuditedMeter),
+    NotOffered(AuditedMeter, Log<'c>),
     /// Its capture or its store doesn't fit.
     Unfit,
 }
 
-/// Appends what an audit says of a meter by what its files hold.
-pub(crate) fn append_judged(
+/// Appends what an audit says of a meter by what its stores and its capture hold.
+pub(crate) fn append_judged<'c>(
     alloc: Global,
     text: &mut String,
     given: &Given<'_, '_>,
     subject: &Subject<'_>,
-    files: FoundFiles,
-) -> Result<Verdict, AuditFault>
-    ensures { IfOk result (IsFound given.now subject.now files) }
+    stores: FoundStores,
+    capture: &'c [u8],
+) -> Result<Verdict<'c>, AuditFault>
+    ensures { IfOk result (IsFound given.now subject.now stores capture.now) }
 {
     let form = given.options.report;
-    let FoundFiles {
-        capture,
-        store,
-        began,
-    } = files;
+    let FoundStores { last, began } = stores;
     let begin = match begin_of(alloc, &given.options.fresh, &given.factory, began) {
         Ok(begin) => begin,
         Err(NoMeter::BadSetup) => return Err(AuditFault::from(Unaudited::BadSetup)),
@@ -72,8 +71,8 @@ pub(crate) fn append_judged(
             return Ok(Verdict::Unfit);
         }
     };
-    match meter_in(alloc, store) {
-        Ok(end) => Ok(append_audited(alloc, text, given, subject, begin, &capture, &end)?),
+    match meter_in(alloc, last) {
+        Ok(end) => Ok(append_audited(alloc, text, given, subject, begin, capture, &end)?),
         Err(refusal) => {
             append_refusal(alloc, text, form, subject.store, refusal)?;
             Ok(Verdict::Unfit)
@@ -82,39 +81,75 @@ pub(crate) fn append_judged(
 }
 
 /// Appends what an audit says of a meter that was `begin`, and is `end`.
-fn append_audited(
+fn append_audited<'c>(
     alloc: Global,
     text: &mut String,
     given: &Given<'_, '_>,
     subject: &Subject<'_>,
     begin: MeterCore<MemoryStore>,
-    capture: &[u8],
+    capture: &'c [u8],
     end: &MeterCore<MemoryStore>,
-) -> Result<Verdict, AllocError>
+) -> Result<Verdict<'c>, AllocError>
     requires { IsCapacity begin.meter.capacity }
     ensures { IfOk result (HasFit given.now subject.now begin.meter capture.now end.now.meter) }
 {
     let form = given.options.report;
-    let heads = &given.options.heads;
     let whole = whole_part(alloc, capture);
-    if whole.len() < capture.len() {
-        let cut = capture.len() - whole.len();
-        append_cut(alloc, text, form, subject.capture, cut)?;
-    }
+    append_rest(alloc, text, form, subject.capture, capture, whole)?;
     let others = others_of(alloc, &given.subjects, subject)?;
     let site = Site {
+        side: Side::Meter,
         at: subject.address,
         others: &others,
+        heads: &given.options.heads,
     };
-    match audit_capture(alloc, heads, site, begin, whole, end) {
-        Ok(found) => {
-            append_fits(alloc, text, form, subject.meter, &found)?;
-            append_switches(alloc, text, given, subject, &found.images)
-        }
+    match audit_capture(alloc, site, begin, whole, end) {
+        Ok(found) => append_fitting(alloc, text, given, subject, found),
         Err(error) => {
             append_departure(alloc, text, form, subject, error)?;
             Ok(Verdict::Unfit)
         }
+    }
+}
+
+/// Appends what an audit says of a meter whose capture and store fit, and of what it switched to.
+fn append_fitting<'c>(
+    alloc: Global,
+    text: &mut String,
+    given: &Given<'_, '_>,
+    subject: &Subject<'_>,
+    found: Audited<'c>,
+) -> Result<Verdict<'c>, AllocError>
+    ensures { IfOk result (IsCompared given.now subject.now found.entry.log found.entry.images.items) }
+{
+    append_fits(alloc, text, given.options.report, subject.meter, &found)?;
+    let Audited { log, images } = found;
+    let meter = AuditedMeter::new(alloc, subject.meter, &images)?;
+    if append_switches(alloc, text, given, subject, &images)? {
+        Ok(Verdict::Fits(meter, log))
+    } else {
+        Ok(Verdict::NotOffered(meter, log))
+    }
+}
+
+/// The log of a meter that doesn't fit, if its capture is one.
+pub(crate) fn log_of_unfit<'c>(
+    alloc: Global,
+    given: &Given<'_, '_>,
+    subject: &Subject<'_>,
+    capture: &'c [u8],
+) -> Result<Option<Log<'c>>, AllocError> {
+    let others = others_of(alloc, &given.subjects, subject)?;
+    let site = Site {
+        side: Side::Meter,
+        at: subject.address,
+        others: &others,
+        heads: given.options.heads.as_slice(),
+    };
+    match read_log(alloc, site, whole_part(alloc, capture)) {
+        Ok(log) => Ok(Some(log)),
+        Err(LogError::OutOfMemory) => Err(AllocError),
+        Err(LogError::Fault(_)) | Err(LogError::Stray(_, _)) => Ok(None),
     }
 }
 
@@ -157,8 +192,24 @@ fn add(others: &mut Vec<SocketAddr>, address: Option<SocketAddr>) -> Result<(), 
     }
 }
 
-/// A capture without what a write left at its end that was cut short, as the meter cuts it off when it starts again.
-fn whole_part(alloc: Global, capture: &[u8]) -> &[u8]
+/// Appends the line of the end of a capture that is left out, if there is one.
+pub(crate) fn append_rest(
+    alloc: Global,
+    text: &mut String,
+    form: AuditForm,
+    path: &str,
+    capture: &[u8],
+    whole: &[u8],
+) -> Result<(), AllocError> {
+    if whole.len() < capture.len() {
+        append_cut(alloc, text, form, path, capture.len() - whole.len())
+    } else {
+        Ok(())
+    }
+}
+
+/// A capture without what a write left at its end that was cut short, as its process cuts it off when it starts again.
+pub(crate) fn whole_part(alloc: Global, capture: &[u8]) -> &[u8]
     ensures { IsWholePart capture.now result.now }
 {
     let mut left = capture;
@@ -176,24 +227,30 @@ fn append_switches(
     given: &Given<'_, '_>,
     subject: &Subject<'_>,
     images: &[Switched],
-) -> Result<Verdict, AllocError>
-    ensures { IfOk result (IsCompared given.now subject.now images.now) }
+) -> Result<bool, AllocError>
+    ensures { IfOk result (λ fits. IsTrue fits → AreCompared given.now images.now) }
 {
-    let meter = AuditedMeter::new(alloc, subject.meter, images)?;
-    if given.options.books.is_empty() {
-        return Ok(Verdict::Fits(meter));
+    if has_no_books(given.options) {
+        return Ok(true);
     }
     match audit_switches(&given.books.books, images) {
-        Ok(()) => Ok(Verdict::Fits(meter)),
+        Ok(()) => Ok(true),
         Err(departure) => {
             if let Some(image) = images.get(departure.at) {
                 let name = image.name();
                 let form = given.options.report;
                 append_switch(alloc, text, form, subject.meter, name, departure.rule)?;
             }
-            Ok(Verdict::NotOffered(meter))
+            Ok(false)
         }
     }
+}
+
+/// Whether meters are audited without books.
+fn has_no_books(options: &AuditOptions<'_>) -> bool
+    ensures { IsTrue result → vec_len options.now.books + vec_len options.now.head_logs ≡ 0 }
+{
+    options.books.is_empty() && options.head_logs.is_empty()
 }
 
 /// Appends the line of what doesn't fit of a capture, or of the store that it leaves.
@@ -213,6 +270,7 @@ fn append_departure(
                 form,
                 rule_name(rule),
                 path,
+                Whose::Meter(subject.meter),
                 mark,
                 rule_why(rule),
             )
@@ -222,16 +280,19 @@ fn append_departure(
             append_misfit(alloc, text, form, "OtherStore", subject.store, why)
         }
         EvidenceError::OutOfMemory => Err(AllocError),
-        EvidenceError::NoLog(error) => append_no_log(alloc, text, form, path, error),
+        EvidenceError::NoLog(error) => {
+            append_no_log(alloc, text, form, path, Whose::Meter(subject.meter), error)
+        }
     }
 }
 
 /// Appends the line of a capture that is no log.
-fn append_no_log(
+pub(crate) fn append_no_log(
     alloc: Global,
     text: &mut String,
     form: AuditForm,
     path: &str,
+    whose: Whose,
     error: LogError,
 ) -> Result<(), AllocError> {
     match error {
@@ -242,11 +303,14 @@ fn append_no_log(
                 form,
                 stray_name(stray),
                 path,
+                whose,
                 mark,
                 stray_why(stray),
             )
         }
-        LogError::Fault(error) => append_fault(alloc, text, form, path, error.fault, error.offset),
+        LogError::Fault(error) => {
+            append_fault(alloc, text, form, path, whose, error.fault, error.offset)
+        }
         LogError::OutOfMemory => Err(AllocError),
     }
 }

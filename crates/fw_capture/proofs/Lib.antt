@@ -1,5 +1,6 @@
 pub mod Sums
 pub mod Packets
+pub mod Parts
 pub mod Octets
 pub mod Readings
 pub mod ReadBack

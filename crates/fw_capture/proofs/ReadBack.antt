@@ -1,8 +1,10 @@
 -- What is written is read back.
 use Rattle.std.proofs.Common.{◌≡◌, ℕ, ◌+◌, ◌-◌, ◌*◌, ◌/◌, ◌%◌, ◌^◌, ◌<◌, ◌≤◌, Bool, true, false, not, leb, eqb, ◌||◌, List, [], ◌∷◌, ◌++◌, length, take, drop, Option, Some, None, Result, Ok, Err, refl, sym, ap, ◌∙◌, arith, append_assoc}
-use Rattle.std.proofs.lemmas.Bool.{le-ltb, leb-false, ltb-false}
+use Rattle.std.specs.Int.{w16, w64, from_be_bytes, to_be_bytes}
+use Rattle.std.specs.Str.{bytes_eq}
+use Rattle.std.proofs.lemmas.Bool.{le-ltb, leb-false, ltb-false, eq-eqb, ne_eqb}
 use Rattle.std.proofs.lemmas.List.{length-append}
-use Rattle.std.proofs.lemmas.Nat.{from_be_bytes-to_be_bytes_2, from_be_bytes-to_be_bytes_8, from_le_bytes-to_le_bytes_4}
+use Rattle.std.proofs.lemmas.Nat.{from_be_bytes-to_be_bytes_2, from_be_bytes-to_be_bytes_4, from_be_bytes-to_be_bytes_8, from_le_bytes-to_le_bytes_4}
 use Rattle.std.proofs.Math.Seq.{take-length, take-append_seam, drop-append_seam}
 use Rattle.fw_capture.specs.declared.error.AppendError.{AppendError}
 use Rattle.fw_capture.specs.declared.error.AppendError.TheVariants.{TimePast, TwoFamilies, TooLong}
@@ -14,9 +16,9 @@ use Rattle.fw_capture.specs.declared.packet.Note.TheVariants as notes
 use Rattle.fw_capture.specs.declared.format.Link.TheVariants as link
 use Rattle.fw_capture.specs.View.{ipv4, ipv6, Told, datagram, note, other, IsEndpoint, IsNote, IsTold, told_in}
 use Rattle.fw_capture.specs.Checksum.{checksum}
-use Rattle.fw_capture.specs.Spelling.{second, note_protocol, note_text, loopback, udp_datagram, ipv4_packet, ipv4_header, ipv4_pseudo, ipv6_packet, ipv6_pseudo, ip_packet, packet_bytes, file_header}
+use Rattle.fw_capture.specs.Spelling.{second, asking_words, note_protocol, note_text, loopback, udp_datagram, ipv4_packet, ipv4_header, ipv4_pseudo, ipv6_packet, ipv6_pseudo, ip_packet, packet_bytes, file_header}
 use Rattle.fw_capture.specs.Refusal.{first_applying, two_families, too_long}
-use Rattle.fw_capture.specs.Reading.{short_at, udp_at, ipv4_size, ipv4_payload_at, ipv6_payload_size, ipv6_payload_at, frame_at, header_at, seconds_at, size_at, fraction_at, time_at, record_at, ◌>>=◌}
+use Rattle.fw_capture.specs.Reading.{short_at, note_at, udp_at, ipv4_size, ipv4_payload_at, ipv6_payload_size, ipv6_payload_at, frame_at, header_at, seconds_at, size_at, fraction_at, time_at, record_at, ◌>>=◌}
 use Rattle.fw_capture.specs.Place.{Place}
 use Rattle.fw_capture.specs.Steps.{NextGives}
 use Rattle.fw_capture.specs.Laws.{written, HeaderIsRead, PacketIsRead, IsPacket, NextIsRead}
@@ -106,21 +108,74 @@ ipv6_datagram_back from to m n bytes source dest fits =
 
 -- ---- notes
 
+asking_length : (octets : List ℕ) (port : ℕ) → length (asking_words ++ octets ++ to_be_bytes w16 port) ≡ 17 + length octets
+asking_length octets port = omega (arith, length-append octets (to_be_bytes w16 port))
+
+asking_v4_read : (payload : List ℕ) → bytes_eq payload (note_text notes.Start) ≡ false → bytes_eq payload (note_text notes.Turn) ≡ false → length payload ≡ 21
+    → bytes_eq (take 15 payload) asking_words ≡ true → note_at payload ≡ note (notes.MayAskV4 (take 4 (drop 15 payload)) (short_at 19 payload))
+asking_v4_read payload no_start no_turn size words = rw (no_start, no_turn, eq-eqb (length payload) 21 size, words)
+
+asking_v6_read : (payload : List ℕ) → bytes_eq payload (note_text notes.Start) ≡ false → bytes_eq payload (note_text notes.Turn) ≡ false → length payload ≡ 33
+    → bytes_eq (take 15 payload) asking_words ≡ true → note_at payload ≡ note (notes.MayAskV6 (take 16 (drop 15 payload)) (short_at 31 payload))
+asking_v6_read payload no_start no_turn size words =
+    let other : (length payload ≡ 21 → ⊥) = λ e. omega (arith, e, size) in
+    rw (no_start, no_turn, ne_eqb (length payload) 21 other, eq-eqb (length payload) 33 size, words)
+
+-- the address and the port stand behind the words
+asked_v4 : (octets : List ℕ) (port : ℕ) → length octets ≡ 4 → port < 2 ^ 16 → note_at (note_text (notes.MayAskV4 octets port)) ≡ note (notes.MayAskV4 octets port)
+asked_v4 octets port size fits =
+    let text : List ℕ = note_text (notes.MayAskV4 octets port) in
+    let behind : List ℕ = to_be_bytes w16 port in
+    asking_v4_read text refl refl (omega (arith, asking_length octets port, size)) refl
+    ∙ ap (λ (o : List ℕ). note (notes.MayAskV4 o (short_at 19 text))) (take_seam 4 octets behind size)
+    ∙ ap (λ (p : List ℕ). note (notes.MayAskV4 octets (from_be_bytes w16 (take 2 p)))) (drop_seam 4 octets behind size)
+    ∙ ap (λ (n : ℕ). note (notes.MayAskV4 octets n)) (from_be_bytes-to_be_bytes_2 port fits)
+
+asked_v6 : (octets : List ℕ) (port : ℕ) → length octets ≡ 16 → port < 2 ^ 16 → note_at (note_text (notes.MayAskV6 octets port)) ≡ note (notes.MayAskV6 octets port)
+asked_v6 octets port size fits =
+    let text : List ℕ = note_text (notes.MayAskV6 octets port) in
+    let behind : List ℕ = to_be_bytes w16 port in
+    asking_v6_read text refl refl (omega (arith, asking_length octets port, size)) refl
+    ∙ ap (λ (o : List ℕ). note (notes.MayAskV6 o (short_at 31 text))) (take_seam 16 octets behind size)
+    ∙ ap (λ (p : List ℕ). note (notes.MayAskV6 octets (from_be_bytes w16 (take 2 p)))) (drop_seam 16 octets behind size)
+    ∙ ap (λ (n : ℕ). note (notes.MayAskV6 octets n)) (from_be_bytes-to_be_bytes_2 port fits)
+
 note_back : (n : Note) → IsNote n → frame_at link.Raw (ip_packet (note n)) ≡ Ok (note n)
 note_back notes.Start fits = ipv4_back note_protocol loopback loopback (note_text notes.Start) refl refl refl (omega arith)
+note_back (notes.MeterStart count heads) fits =
+    ipv4_back note_protocol loopback loopback (note_text (notes.MeterStart count heads)) refl refl refl (omega arith)
+    ∙ ap (λ (n : ℕ). Ok (note (notes.MeterStart n (from_be_bytes w64 (to_be_bytes w64 heads))))) (from_be_bytes-to_be_bytes_4 count fits.0)
+    ∙ ap (λ (n : ℕ). Ok (note (notes.MeterStart count n))) (from_be_bytes-to_be_bytes_8 heads fits.1)
+note_back (notes.HeadStart head) fits =
+    ipv4_back note_protocol loopback loopback (note_text (notes.HeadStart head)) refl refl refl (omega arith)
+    ∙ ap (λ (n : ℕ). Ok (note (notes.HeadStart n))) (from_be_bytes-to_be_bytes_4 head fits)
+note_back (notes.MayAskV4 octets port) fits =
+    ipv4_back note_protocol loopback loopback (note_text (notes.MayAskV4 octets port)) refl refl refl (omega (arith, asking_length octets port, fits.0))
+    ∙ ap (λ (t : Told). Ok t) (asked_v4 octets port fits.0 fits.1)
+note_back (notes.MayAskV6 octets port) fits =
+    ipv4_back note_protocol loopback loopback (note_text (notes.MayAskV6 octets port)) refl refl refl (omega (arith, asking_length octets port, fits.0))
+    ∙ ap (λ (t : Told). Ok t) (asked_v6 octets port fits.0 fits.1)
 note_back notes.Turn fits = ipv4_back note_protocol loopback loopback (note_text notes.Turn) refl refl refl (omega arith)
 note_back (notes.TurnAt port) fits =
     ipv4_back note_protocol loopback loopback (note_text (notes.TurnAt port)) refl refl refl (omega arith)
     ∙ ap (λ (n : ℕ). Ok (note (notes.TurnAt n))) (from_be_bytes-to_be_bytes_2 port fits)
+note_back (notes.UnservedAt port) fits =
+    ipv4_back note_protocol loopback loopback (note_text (notes.UnservedAt port)) refl refl refl (omega arith)
+    ∙ ap (λ (n : ℕ). Ok (note (notes.UnservedAt n))) (from_be_bytes-to_be_bytes_2 port fits)
 note_back (notes.Strangers count) fits =
     ipv4_back note_protocol loopback loopback (note_text (notes.Strangers count)) refl refl refl (omega arith)
     ∙ ap (λ (n : ℕ). Ok (note (notes.Strangers n))) (from_be_bytes-to_be_bytes_8 count fits)
 
-note_size : (n : Note) → length (ip_packet (note n)) < 2 ^ 32
-note_size notes.Start = omega arith
-note_size notes.Turn = omega arith
-note_size (notes.TurnAt port) = omega arith
-note_size (notes.Strangers count) = omega arith
+note_size : (n : Note) → IsNote n → length (ip_packet (note n)) < 2 ^ 32
+note_size notes.Start fits = omega arith
+note_size (notes.MeterStart count heads) fits = omega arith
+note_size (notes.HeadStart head) fits = omega arith
+note_size (notes.MayAskV4 octets port) fits = omega (arith, asking_length octets port, fits.0)
+note_size (notes.MayAskV6 octets port) fits = omega (arith, asking_length octets port, fits.0)
+note_size notes.Turn fits = omega arith
+note_size (notes.TurnAt port) fits = omega arith
+note_size (notes.UnservedAt port) fits = omega arith
+note_size (notes.Strangers count) fits = omega arith
 
 -- ---- pcap
 
@@ -146,7 +201,7 @@ told_back (datagram (ipv6 from m) (ipv6 to n) bytes) known same short =
     (ipv6_datagram_back from to m n bytes known.0 known.1 (omega arith), omega arith)
 told_back (datagram (ipv4 from m) (ipv6 to n) bytes) known same short = absurd (cc)
 told_back (datagram (ipv6 from m) (ipv4 to n) bytes) known same short = absurd (cc)
-told_back (note n) known same short = (note_back n known, note_size n)
+told_back (note n) known same short = (note_back n known, note_size n known)
 told_back other known same short = absurd known
 
 pub header_is_read : HeaderIsRead

@@ -9,7 +9,7 @@ use Rattle.fw_capture.specs.declared.format.Link.{Link}
 use Rattle.fw_capture.specs.declared.format.Link.TheVariants as link
 use Rattle.fw_capture.specs.declared.packet.Note.TheVariants as notes
 use Rattle.fw_capture.specs.View.{Endpoint, ipv4, ipv6, Told, datagram, note, other}
-use Rattle.fw_capture.specs.Spelling.{note_protocol, note_text, strangers_words, turn_words, second}
+use Rattle.fw_capture.specs.Spelling.{asking_words, head_start_words, meter_start_words, note_protocol, note_text, strangers_words, turn_words, unserved_words, second}
 
 -- what comes of the value that is read; a fault stays
 infixl 10 ◌>>=◌
@@ -30,6 +30,10 @@ or_fault fault (Some x) = Ok x
 -- the number of two bytes at a place, high byte first
 abbrev pub short_at : ℕ → List ℕ → ℕ
 short_at place bytes = from_be_bytes w16 (take 2 (drop place bytes))
+
+-- the number of four bytes at a place, high byte first
+abbrev pub word_at : ℕ → List ℕ → ℕ
+word_at place bytes = from_be_bytes w32 (take 4 (drop place bytes))
 
 -- the number of eight bytes at a place, high byte first
 abbrev pub long_at : ℕ → List ℕ → ℕ
@@ -69,21 +73,41 @@ is_fragment packet = not (short_at 6 packet % 0x4000 == 0)
 abbrev pub is_passed_over : List ℕ → Bool
 is_passed_over packet = is_fragment packet || not (ipv4_protocol packet == 17 || ipv4_protocol packet == note_protocol)
 
--- the note of strangers of this text: their number follows the words, in eight bytes
+-- the note that memory was refused of this text: the port of the meter follows the words, in two bytes
+abbrev pub unserved_at : List ℕ → Told
+unserved_at payload =
+    if length payload == 18 && bytes_eq (take 16 payload) unserved_words then note (notes.UnservedAt (short_at 16 payload)) else other
+
+-- the note of a start of this text: the count of meters and how many addresses may ask follow the words, in four and in eight bytes; or the
+-- number of a head end, in four; or that memory was refused
+abbrev pub start_at : List ℕ → Told
+start_at payload =
+    if length payload == 31 && bytes_eq (take 19 payload) meter_start_words then note (notes.MeterStart (word_at 19 payload) (long_at 23 payload)) else (
+    if length payload == 22 && bytes_eq (take 18 payload) head_start_words then note (notes.HeadStart (word_at 18 payload)) else unserved_at payload)
+
+-- the note of strangers of this text: their number follows the words, in eight bytes; or that of a start
 abbrev pub strangers_at : List ℕ → Told
 strangers_at payload =
-    if length payload == 25 && bytes_eq (take 17 payload) strangers_words then note (notes.Strangers (long_at 17 payload)) else other
+    if length payload == 25 && bytes_eq (take 17 payload) strangers_words then note (notes.Strangers (long_at 17 payload)) else start_at payload
 
 -- the note of a turn of this text: the port of its meter follows the words, in two bytes; or that of strangers
 abbrev pub numbered_at : List ℕ → Told
 numbered_at payload =
     if length payload == 14 && bytes_eq (take 12 payload) turn_words then note (notes.TurnAt (short_at 12 payload)) else strangers_at payload
 
+-- the note of an address that may ask of this text: it follows the words, in four or in sixteen bytes, and its port, in two; or one with a
+-- number
+abbrev pub asking_at : List ℕ → Told
+asking_at payload =
+    if length payload == 21 && bytes_eq (take 15 payload) asking_words then note (notes.MayAskV4 (take 4 (drop 15 payload)) (short_at 19 payload)) else (
+    if length payload == 33 && bytes_eq (take 15 payload) asking_words then note (notes.MayAskV6 (take 16 (drop 15 payload)) (short_at 31 payload))
+    else numbered_at payload)
+
 -- the note of this text; any other packet for experiments is none
 abbrev pub note_at : List ℕ → Told
 note_at payload =
     if bytes_eq payload (note_text notes.Start) then note notes.Start else (
-    if bytes_eq payload (note_text notes.Turn) then note notes.Turn else numbered_at payload)
+    if bytes_eq payload (note_text notes.Turn) then note notes.Turn else asking_at payload)
 
 -- what a datagram or a packet for experiments tells, by the header before it: the addresses are four bytes at 12 and at 16
 abbrev pub ipv4_payload_at : List ℕ → List ℕ → Result Told CaptureFault

@@ -54,19 +54,40 @@ ipv6_pseudo from to size = from ++ to ++ (to_be_bytes w32 size ++ (0 ∷ 0 ∷ 0
 
 -- ---- notes, which are an own form
 
+-- the words of a note of a start of meters, and of one of a head end
+abbrev pub meter_start_words : List ℕ
+meter_start_words = codes "dlmsfw start meter "
+
+abbrev pub head_start_words : List ℕ
+head_start_words = codes "dlmsfw start head "
+
+-- the words of a note of an address that may ask
+abbrev pub asking_words : List ℕ
+asking_words = codes "dlmsfw may ask "
+
 -- the words of a note of a turn of one meter
 abbrev pub turn_words : List ℕ
 turn_words = codes "dlmsfw turn "
+
+-- the words of a note that memory was refused
+abbrev pub unserved_words : List ℕ
+unserved_words = codes "dlmsfw unserved "
 
 -- the words of a note of strangers
 abbrev pub strangers_words : List ℕ
 strangers_words = codes "dlmsfw strangers "
 
--- the text of a note; behind the words stands the port of the meter whose turn it is, or the number of strangers
+-- the text of a note; behind the words stand the count of meters that started, and of addresses that may ask them; the number of the head end
+-- that did; an address and its port; the port of the meter whose turn it is, or to which memory was refused; or the number of strangers
 abbrev pub note_text : Note → List ℕ
 note_text notes.Start = codes "dlmsfw start"
+note_text (notes.MeterStart count heads) = meter_start_words ++ to_be_bytes w32 count ++ to_be_bytes w64 heads
+note_text (notes.HeadStart head) = head_start_words ++ to_be_bytes w32 head
+note_text (notes.MayAskV4 octets port) = asking_words ++ octets ++ to_be_bytes w16 port
+note_text (notes.MayAskV6 octets port) = asking_words ++ octets ++ to_be_bytes w16 port
 note_text notes.Turn = codes "dlmsfw turn"
 note_text (notes.TurnAt port) = turn_words ++ to_be_bytes w16 port
+note_text (notes.UnservedAt port) = unserved_words ++ to_be_bytes w16 port
 note_text (notes.Strangers count) = strangers_words ++ to_be_bytes w64 count
 
 -- 127.0.0.1, which a note goes from and to

@@ -38,11 +38,17 @@ abbrev pub IsEndpoint : Endpoint → Type 0
 IsEndpoint (ipv4 address port) = (length address ≡ 4) × (port < 2 ^ 16)
 IsEndpoint (ipv6 address port) = (length address ≡ 16) × (port < 2 ^ 16)
 
--- a port has 16 bits, and a number of strangers 64
+-- a port has 16 bits, a count of meters and the number of a head end 32, and how many addresses may ask, or strangers came, 64; an address has
+-- four bytes or sixteen
 abbrev pub IsNote : Note → Type 0
 IsNote notes.Start = Unit {0}
+IsNote (notes.MeterStart count heads) = (count < 2 ^ 32) × (heads < 2 ^ 64)
+IsNote (notes.HeadStart head) = head < 2 ^ 32
+IsNote (notes.MayAskV4 octets port) = (length octets ≡ 4) × (port < 2 ^ 16)
+IsNote (notes.MayAskV6 octets port) = (length octets ≡ 16) × (port < 2 ^ 16)
 IsNote notes.Turn = Unit {0}
 IsNote (notes.TurnAt port) = port < 2 ^ 16
+IsNote (notes.UnservedAt port) = port < 2 ^ 16
 IsNote (notes.Strangers count) = count < 2 ^ 64
 
 -- a datagram between two endpoints, or a note

@@ -9,7 +9,7 @@ ghost use Rattle.fw_capture.specs.Private.{Gives};
 use crate::fault::CaptureFault;
 use crate::internet::UDP;
 use crate::link::{IPV4, IPV6};
-use crate::note::{NOTE_PROTOCOL, note_with_number, start_text, turn_text};
+use crate::note::{NOTE_PROTOCOL, note_behind_words, start_text, turn_text};
 use crate::number::short_at;
 use crate::packet::{Content, Note};
 use std::net::{Ipv4Addr, Ipv6Addr, SocketAddr, SocketAddrV4, SocketAddrV6};
@@ -63,7 +63,7 @@ fn note(payload: &[u8]) -> Option<Content<'_>>
     } else if payload == turn_text() {
         Some(Content::Note(Note::Turn))
     } else {
-        note_with_number(payload)
+        note_behind_words(payload)
     }
 }
 

@@ -1,7 +1,7 @@
 //! The numbers of headers.
 
-ghost use Rattle.std.specs.Prelude.{◌≡◌, ◌+◌, ◌≤◌, length};
-ghost use Rattle.fw_capture.specs.Reading.{short_at, long_at, half_at, number_at};
+ghost use Rattle.std.specs.Prelude.{◌≡◌, ◌+◌, ◌≤◌, drop, length, take};
+ghost use Rattle.fw_capture.specs.Reading.{short_at, word_at, long_at, half_at, number_at};
 
 /// The number of two bytes at a place, high byte first.
 pub(crate) fn short_at(place: usize, bytes: &[u8]) -> u16
@@ -12,6 +12,17 @@ pub(crate) fn short_at(place: usize, bytes: &[u8]) -> u16
         unreachable!()
     };
     u16::from_be_bytes([*high, *low])
+}
+
+/// The number of four bytes at a place, high byte first.
+pub(crate) fn word_at(place: usize, bytes: &[u8]) -> u32
+    requires { place + 4 ≤ length bytes.now }
+    ensures { result ≡ word_at place bytes.now }
+{
+    let [a, b, c, d, ..] = &bytes[place..] else {
+        unreachable!()
+    };
+    u32::from_be_bytes([*a, *b, *c, *d])
 }
 
 /// The number of eight bytes at a place, high byte first.
@@ -54,4 +65,25 @@ pub(crate) fn number_at(little: bool, place: usize, bytes: &[u8]) -> u32
     } else {
         u32::from_be_bytes(number)
     }
+}
+
+/// The four bytes at a place.
+pub(crate) fn four_at(place: usize, bytes: &[u8]) -> [u8; 4]
+    requires { place + 4 ≤ length bytes.now }
+    ensures { result ≡ take 4 (drop place bytes.now) }
+{
+    let [a, b, c, d, ..] = &bytes[place..] else {
+        unreachable!()
+    };
+    [*a, *b, *c, *d]
+}
+
+/// The sixteen bytes at a place.
+pub(crate) fn sixteen_at(place: usize, bytes: &[u8]) -> [u8; 16]
+    requires { place + 16 ≤ length bytes.now }
+    ensures { result ≡ take 16 (drop place bytes.now) }
+{
+    let mut octets = [0; 16];
+    octets.copy_from_slice(&bytes[place..place + 16]);
+    octets
 }

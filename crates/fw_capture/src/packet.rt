@@ -8,12 +8,23 @@ pub(crate) const SECOND: u64 = 1_000_000_000;
 /// What a process did that no datagram tells.
 #[derive(Clone, Copy, Debug)]
 pub enum Note {
-    /// The process started.
+    /// The process started, as older captures have it.
     Start,
+    /// The process of meters started: of so many that a count asks for, and 0 for the one without a count. So many addresses may ask them,
+    /// and any if there are none; a note of each follows.
+    MeterStart { count: u32, heads: u64 },
+    /// The process of the head end of this number started.
+    HeadStart(u32),
+    /// This address of IPv4 and this port may ask the meters of the process.
+    MayAskV4([u8; 4], u16),
+    /// This address of IPv6 and this port may.
+    MayAskV6([u8; 16], u16),
     /// A meter took a turn of a verification. Of several in a process it isn't known which.
     Turn,
     /// The meter that has this port took a turn of a verification.
     TurnAt(u16),
+    /// Memory was refused to the meter that has this port, for the datagram that came to it last: it is dropped.
+    UnservedAt(u16),
     /// So many datagrams came from strangers since the last record, and have none.
     Strangers(u64),
 }

@@ -14,14 +14,14 @@ use Rattle.fw_faults.specs.declared.fault.Fault.{Fault}
 use Rattle.fw_faults.specs.declared.fault.Fault.TheVariants as fault
 use Rattle.fw_faults.specs.Faults.{fault_of_stop}
 use Rattle.fw_host.specs.Captures.{IsOfCapture}
-use Rattle.fw_host.specs.Faults.{fault_of_list}
-use Rattle.fw_host.specs.declared.error.ListError.{ListError}
-use Rattle.fw_host.specs.declared.error.ListError.TheVariants as list
 use Rattle.fw_host.specs.declared.sealing.SealingOptions.{SealingOptions}
 use Rattle.fw_host.specs.Heads.{ComesBeforeLines, IsCancelFault, IsOfBook, IsOfHead, IsOfHeadSetup, IsOfNewBook, IsOfOldBook, IsOpenFault}
 use Rattle.fw_host.specs.Openings.{CancelsRefused, PartsRefused, RefusesOne, RefusesOneCancel}
 use Rattle.fw_cli.specs.Faults.{IsKeyed}
-use Rattle.fw_cli.specs.Heads.{IsAskedFor, IsOfBeginning, IsOfCancelling, IsOfJudging, IsOfList, IsOfOpened, IsOfOpening, IsOfOpeningSetup, IsOfStop}
+use Rattle.fw_cli.specs.Heads.{IsAskedFor, IsOfBeginning, IsOfCancelling, IsOfJudging, IsOfOpened, IsOfOpening, IsOfOpeningSetup, IsOfStop}
+use Rattle.fw_cli.specs.Private.{fault_of_list_file}
+use Rattle.fw_cli.specs.declared.error.ListFileError.{ListFileError}
+use Rattle.fw_cli.specs.declared.error.ListFileError.TheVariants as list_file
 use Rattle.fw_cli.specs.declared.head.HeadOptions.{HeadOptions}
 
 -- ---- the book
@@ -177,21 +177,15 @@ open_fault refusal f is = absurd is
 
 -- ---- what comes before the first line
 
-pub list_refused : (e : ListError) → IsOfList (fault_of_list e)
-list_refused (list.BadList line) = tt
-list_refused list.OutOfMemory = tt
+pub list_in_setup : (e : ListFileError) → IsOfHeadSetup (fault_of_list_file e)
+list_in_setup list_file.ListFault = tt
+list_in_setup (list_file.BadList line) = tt
+list_in_setup list_file.OutOfMemory = tt
 
-pub list_in_setup : (f : Fault) → IsOfList f → IsOfHeadSetup f
-list_in_setup fault.ListFault is = tt
-list_in_setup (fault.BadList line) is = tt
-list_in_setup fault.OutOfMemory is = tt
-list_in_setup f is = absurd is
-
-pub list_is_asked : (options : HeadOptions) (f : Fault) → IsOfList f → IsAskedFor options f
-list_is_asked options fault.ListFault is = tt
-list_is_asked options (fault.BadList line) is = tt
-list_is_asked options fault.OutOfMemory is = tt
-list_is_asked options f is = absurd is
+pub list_is_asked : (options : HeadOptions) (e : ListFileError) → IsAskedFor options (fault_of_list_file e)
+list_is_asked options list_file.ListFault = tt
+list_is_asked options (list_file.BadList line) = tt
+list_is_asked options list_file.OutOfMemory = tt
 
 pub opening_in_setup : (f : Fault) → IsOfOpeningSetup f → IsOfHeadSetup f
 opening_in_setup fault.ImageFault is = tt

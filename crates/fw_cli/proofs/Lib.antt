@@ -1,7 +1,9 @@
+pub mod Answered
 pub mod Described
 pub mod Honest
 pub mod NewStores
 pub mod OneAnswer
+pub mod Passing
 pub mod Rehearsed
 pub mod Replayed
 pub mod Scripted
@@ -15,8 +17,8 @@ pub mod Sayings
 pub mod Fleeting
 pub mod Linked
 pub mod Keyed
-pub mod Traced
 pub mod Dissected
 pub mod Rollouts
 pub mod Inputs
 pub mod Surveyed
+pub mod Noted

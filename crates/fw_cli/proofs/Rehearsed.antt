@@ -17,14 +17,13 @@ use Rattle.fw_workers.specs.declared.error.RehearseError.TheVariants as refused
 use Rattle.fw_workers.specs.Beginnings.{BeginsFor}
 use Rattle.fw_workers.specs.Refusals.{TellsOfEvent}
 use Rattle.fw_workers.specs.Deals.{AreWorkers}
-use Rattle.fw_cli.specs.Faults.{IsOfLiveWorkers}
 use Rattle.fw_cli.specs.Rehearsing.{ReadsScript, TellsOfWorkers, TellsRehearsal, TracesWorkers, WritesRehearsal}
 use Rattle.fw_cli.specs.Capturing.{CapturesIf}
 use Rattle.fw_cli.specs.Replaying.{MayWantFor}
 use Rattle.fw_cli.specs.Scripts.{EndsBy, MakesNoneFor}
 use Rattle.fw_faults.specs.declared.fault.Fault.{Fault}
 use Rattle.fw_faults.specs.declared.fault.Fault.TheVariants as fault
-use Rattle.fw_cli.specs.Private.{HasNoReport, fault_of_rehearsal}
+use Rattle.fw_cli.specs.Private.{HasNoReport, IsOfLiveWorkers, fault_of_workers}
 use Rattle.fw_cli.proofs.Scripted as Scripted
 use Rattle.fw_report.specs.Report.{report_of, board_line}
 
@@ -101,7 +100,7 @@ uncaptured workers before after capture captured first setup events f read made 
 
 -- why there is no report of workers
 by_error : (workers : ℕ) (setup : Setup) (events : List Given) (e : RehearseError) → (e ≡ refused.BadSetup → AreWorkers workers → ¬ IsSetup setup)
-    → TellsOfEvent setup events e → (e ≢ refused.BadSetup → IsSetup setup) → HasNoReport workers setup events (fault_of_rehearsal e)
+    → TellsOfEvent setup events e → (e ≢ refused.BadSetup → IsSetup setup) → HasNoReport workers setup events (fault_of_workers e)
 by_error workers setup events refused.BadSetup none barred made = record { bad_setup = λ _. none refl; event = λ other. cc other; memory = λ other. cc other }
 by_error workers setup events (refused.Event number) none barred made = record { bad_setup = λ other. cc other; event = λ _. (number, barred); memory = λ other. cc other }
 by_error workers setup events refused.Mismatch none barred made = record { bad_setup = λ other. cc other; event = λ other. cc other; memory = λ other. cc other }
@@ -111,7 +110,7 @@ by_error workers setup events refused.GateShut none barred made = record { bad_s
 by_error workers setup events refused.OutOfMemory none barred made = record { bad_setup = λ other. cc other; event = λ other. cc other; memory = λ _. made (λ is. cc is) }
 
 pub unreported : (workers : ℕ) (setup : Setup) (events : List Given) (report : Result Report RehearseError) (e : RehearseError) (f : Fault)
-    → report ≡ Err e → BeginsFor setup events workers report → f ≡ fault_of_rehearsal e → HasNoReport workers setup events f
+    → report ≡ Err e → BeginsFor setup events workers report → f ≡ fault_of_workers e → HasNoReport workers setup events f
 unreported workers setup events report e f was begins gives =
     subst (HasNoReport workers setup events) (sym gives)
     (by_error workers setup events e (λ is. begins.bad_setup (was ∙ ap Err is)) (IfErr-at_err (TellsOfEvent setup events) was begins.event)

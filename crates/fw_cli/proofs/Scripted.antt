@@ -1,15 +1,26 @@
 -- What a command that runs a script says by a fault, from when the fault came.
-use Rattle.std.proofs.Common.{◌≡◌, ℕ, List, [], Option, inl, inr, refl, sym, subst, arith}
+use Rattle.std.proofs.Common.{◌≡◌, ℕ, List, [], Option, Result, Err, IfErr, inl, inr, refl, sym, subst, arith}
 use Rattle.std.specs.Prelude.{IsTrue, is_some, ◌⊎◌, ◌≢◌, ◌≤◌}
 use Rattle.std.proofs.KnownBytes.{Consumes-nil, Keeps-refl}
 use Rattle.fw_faults.specs.declared.fault.Fault.{Fault}
 use Rattle.fw_faults.specs.declared.fault.Fault.TheVariants as fault
+use Rattle.fw_faults.specs.declared.error.InputError.{InputError}
+use Rattle.fw_faults.specs.declared.error.InputError.TheVariants as input_error
+use Rattle.fw_faults.specs.Faults.{fault_of_input}
 use Rattle.fw_faults.specs.Reading.{Gives, ReadsAll, ReadsUntil, max_input}
 use Rattle.fw_script.specs.Script.{IsBadLine}
-use Rattle.fw_cli.specs.Faults.{IsOfLiveWorkers, IsOfWorkers}
+use Rattle.fw_script.specs.declared.error.FatesError.{FatesError}
+use Rattle.fw_script.specs.declared.error.FatesError.TheVariants as fates
+use Rattle.fw_cli.specs.Private.{IsOfLiveWorkers, IsOfWorkers, fault_of_run_capture, fault_of_script_input}
 use Rattle.fw_cli.specs.Rehearsing.{IsBarredIn}
 use Rattle.fw_cli.specs.Replaying.{MakesOne, MayTakeMemory, MayWantFor, ReadsOne}
-use Rattle.fw_cli.specs.Scripts.{EndsBy}
+use Rattle.fw_cli.specs.Scripts.{EndsBy, fault_of_fates, fault_of_replay}
+use Rattle.fw_cli.specs.declared.capture.RunCaptureError.{RunCaptureError}
+use Rattle.fw_cli.specs.declared.capture.RunCaptureError.TheVariants as run_capture
+use Rattle.fw_cli.specs.declared.replay.ReplayingError.{ReplayingError}
+use Rattle.fw_cli.specs.declared.replay.ReplayingError.TheVariants as replay
+use Rattle.fw_cli.specs.declared.workers.ScriptInputError.{ScriptInputError}
+use Rattle.fw_cli.specs.declared.workers.ScriptInputError.TheVariants as script_input
 
 -- ---- when a fault comes
 
@@ -158,33 +169,28 @@ untold IsUnmade before after capture first input f all bad_line bad_setup event 
   uncaptured = λ _ _. refl;
 }
 
+same_line : (a b : ℕ) → fault.BadLine a ≡ fault.BadLine b → a ≡ b
+same_line a b is = cc
+
 -- of a replay: no event is refused so
-abbrev IsOfReplay : Fault → Type 0
-IsOfReplay fault.OutOfMemory = Unit {0}
-IsOfReplay fault.BadSetup = Unit {0}
-IsOfReplay (fault.BadLine number) = Unit {0}
-IsOfReplay f = ⊥
-
-of_replay : (f : Fault) → (f ≡ fault.OutOfMemory) ⊎ ((f ≡ fault.BadSetup) ⊎ ((number : ℕ) × (f ≡ fault.BadLine number))) → IsOfReplay f
-of_replay f (inl e) = subst IsOfReplay (sym e) tt
-of_replay f (inr (inl e)) = subst IsOfReplay (sym e) tt
-of_replay f (inr (inr (number, e))) = subst IsOfReplay (sym e) tt
-
-replay_runs : (f : Fault) → IsOfReplay f → IsOfRun f
-replay_runs fault.OutOfMemory is = tt
-replay_runs fault.BadSetup is = tt
-replay_runs (fault.BadLine number) is = tt
-replay_runs f is = absurd is
-
-pub unreplayed : {C : Type 0} (IsUnmade : List ℕ → Type 0) (before after : Option (List ℕ)) (capture : Option C) (first : Option (List ℕ)) (input : List ℕ) (f : Fault)
+pub unreplayed : {C : Type 0} (IsUnmade : List ℕ → Type 0) (before after : Option (List ℕ)) (capture : Option C) (first : Option (List ℕ)) (input : List ℕ) (e : ReplayingError)
     → ReadsAll before after input
-    → ((number : ℕ) → f ≡ fault.BadLine number → IsBadLine input number) → (f ≡ fault.BadSetup → IsUnmade input)
-    → (f ≡ fault.OutOfMemory → MayTakeMemory input)
-    → (f ≡ fault.OutOfMemory) ⊎ ((f ≡ fault.BadSetup) ⊎ ((number : ℕ) × (f ≡ fault.BadLine number)))
-    → EndsBy (MayWantFor before after) IsUnmade before after capture capture first first f
-unreplayed IsUnmade before after capture first input f all bad_line bad_setup memory faults =
-    let is : IsOfReplay f = of_replay f faults in
-    untold IsUnmade before after capture first input f all bad_line bad_setup (λ other. absurd (subst IsOfReplay other is)) memory (replay_runs f is)
+    → ((number : ℕ) → e ≡ replay.BadLine number → IsBadLine input number) → (e ≡ replay.BadSetup → IsUnmade input)
+    → (e ≡ replay.OutOfMemory → MayTakeMemory input)
+    → (e ≡ replay.OutOfMemory) ⊎ ((e ≡ replay.BadSetup) ⊎ ((number : ℕ) × (e ≡ replay.BadLine number)))
+    → EndsBy (MayWantFor before after) IsUnmade before after capture capture first first (fault_of_replay e)
+unreplayed IsUnmade before after capture first input e all bad_line bad_setup memory (inl is) =
+    subst (λ (e : ReplayingError). EndsBy (MayWantFor before after) IsUnmade before after capture capture first first (fault_of_replay e)) (sym is)
+    (untold IsUnmade before after capture first input fault.OutOfMemory all (λ number other. absurd (cc other)) (λ other. absurd (cc other)) (λ other. absurd (cc other))
+    (λ _. memory is) tt)
+unreplayed IsUnmade before after capture first input e all bad_line bad_setup memory (inr (inl is)) =
+    subst (λ (e : ReplayingError). EndsBy (MayWantFor before after) IsUnmade before after capture capture first first (fault_of_replay e)) (sym is)
+    (untold IsUnmade before after capture first input fault.BadSetup all (λ number other. absurd (cc other)) (λ _. bad_setup is) (λ other. absurd (cc other))
+    (λ other. absurd (cc other)) tt)
+unreplayed IsUnmade before after capture first input e all bad_line bad_setup memory (inr (inr (line, is))) =
+    subst (λ (e : ReplayingError). EndsBy (MayWantFor before after) IsUnmade before after capture capture first first (fault_of_replay e)) (sym is)
+    (untold IsUnmade before after capture first input (fault.BadLine line) all (λ number other. subst (IsBadLine input) (same_line line number other) (bad_line line is))
+    (λ other. absurd (cc other)) (λ other. absurd (cc other)) (λ other. absurd (cc other)) tt)
 
 -- what was captured, where the capture didn't fail
 same_captured : {C : Type 0} (capture captured : Option C) (f : Fault) → (f ≡ fault.OutOfMemory → captured ≡ capture)
@@ -243,3 +249,58 @@ wants_more MayWant MayWantMore IsUnmade before after capture captured first last
   silent = ends.silent;
   uncaptured = ends.uncaptured;
 }
+
+-- ---- the errors of the parts of a command, as faults
+
+-- a command ends so by an error that is this fault
+pub ends_as : {A E C : Type 0} (r : Result A E) (of : E → Fault) (MayWant : Type 0) (IsUnmade : List ℕ → Type 0) (before after : Option (List ℕ)) (capture captured : Option C)
+    (first last : Option (List ℕ)) (e : E) (f : Fault) → r ≡ Err e → of e ≡ f → EndsBy MayWant IsUnmade before after capture captured first last f
+    → IfErr r (λ e. EndsBy MayWant IsUnmade before after capture captured first last (of e))
+ends_as {A} {E} r of MayWant IsUnmade before after capture captured first last e f was same ends =
+    subst (λ (x : Result A E). IfErr x (λ e. EndsBy MayWant IsUnmade before after capture captured first last (of e))) (sym was)
+    (subst (λ (f : Fault). EndsBy MayWant IsUnmade before after capture captured first last f) (sym same) ends)
+
+pub fates_memory : (e : FatesError) → fault_of_fates e ≡ fault.OutOfMemory → e ≡ fates.OutOfMemory
+fates_memory fates.BadFates is = absurd (cc is)
+fates_memory fates.OutOfMemory is = refl
+
+pub of_fates_error : (e : FatesError) → (fault_of_fates e ≡ fault.BadFates) ⊎ (fault_of_fates e ≡ fault.OutOfMemory)
+of_fates_error fates.BadFates = inl refl
+of_fates_error fates.OutOfMemory = inr refl
+
+pub input_memory : (e : InputError) → fault_of_input e ≡ fault.OutOfMemory → e ≡ input_error.OutOfMemory
+input_memory input_error.Input is = absurd (cc is)
+input_memory input_error.TooMuchInput is = absurd (cc is)
+input_memory input_error.OutOfMemory is = refl
+
+pub of_input_error : (e : InputError) → (fault_of_input e ≡ fault.Input) ⊎ ((fault_of_input e ≡ fault.TooMuchInput) ⊎ (fault_of_input e ≡ fault.OutOfMemory))
+of_input_error input_error.Input = inl refl
+of_input_error input_error.TooMuchInput = inr (inl refl)
+of_input_error input_error.OutOfMemory = inr (inr refl)
+
+pub script_line : (e : ScriptInputError) (number : ℕ) → fault_of_script_input e ≡ fault.BadLine number → e ≡ script_input.BadLine number
+script_line script_input.Input number is = absurd (cc is)
+script_line script_input.TooMuchInput number is = absurd (cc is)
+script_line (script_input.BadLine n) number is = cc
+script_line script_input.OutOfMemory number is = absurd (cc is)
+
+pub script_memory : (e : ScriptInputError) → fault_of_script_input e ≡ fault.OutOfMemory → e ≡ script_input.OutOfMemory
+script_memory script_input.Input is = absurd (cc is)
+script_memory script_input.TooMuchInput is = absurd (cc is)
+script_memory (script_input.BadLine n) is = absurd (cc is)
+script_memory script_input.OutOfMemory is = refl
+
+pub of_script_error : (e : ScriptInputError) → (fault_of_script_input e ≡ fault.Input) ⊎ ((fault_of_script_input e ≡ fault.TooMuchInput)
+    ⊎ ((fault_of_script_input e ≡ fault.OutOfMemory) ⊎ ((number : ℕ) × (fault_of_script_input e ≡ fault.BadLine number))))
+of_script_error script_input.Input = inl refl
+of_script_error script_input.TooMuchInput = inr (inl refl)
+of_script_error (script_input.BadLine n) = inr (inr (inr (n, refl)))
+of_script_error script_input.OutOfMemory = inr (inr (inl refl))
+
+pub capture_memory : (e : RunCaptureError) → fault_of_run_capture e ≡ fault.OutOfMemory → e ≡ run_capture.OutOfMemory
+capture_memory run_capture.CaptureFault is = absurd (cc is)
+capture_memory run_capture.OutOfMemory is = refl
+
+pub of_capture_error : (e : RunCaptureError) → (fault_of_run_capture e ≡ fault.OutOfMemory) ⊎ (fault_of_run_capture e ≡ fault.CaptureFault)
+of_capture_error run_capture.CaptureFault = inr refl
+of_capture_error run_capture.OutOfMemory = inl refl

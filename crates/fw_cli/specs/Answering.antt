@@ -4,6 +4,10 @@ use Rattle.std.specs.Prelude.{◌≡◌, ℕ, List, Option}
 use Rattle.std.specs.Io.KnownBytes.{Appends}
 use Rattle.fw_image.specs.Meter.{Meter, restarted}
 use Rattle.fw_image.specs.State.{State}
+use Rattle.fw_faults.specs.declared.fault.Fault.{Fault}
+use Rattle.fw_faults.specs.declared.fault.Fault.TheVariants as fault
+use Rattle.fw_cli.specs.declared.answer.AnswerError.{AnswerError}
+use Rattle.fw_cli.specs.declared.answer.AnswerError.TheVariants as answer
 use Rattle.fw_cli.specs.declared.answer.AnswerOptions.{AnswerOptions}
 use Rattle.fw_cli.specs.Options.{Describes}
 use Rattle.fw_cli.specs.Session.{AnswersLine, AnswersLineOver, Session}
@@ -29,3 +33,12 @@ pub record AnswersOpened (bad_line : Option ℕ) (before after first last : Opti
   pub begins : restarted meter.meter ≡ meter.meter
   pub faultless : meter.faults ≡ 0
   pub writes : WritesSession AnswersLineOver meter bad_line before after first last
+
+-- the fault that says why it ended early
+abbrev pub fault_of_answer : AnswerError → Fault
+fault_of_answer answer.BadSetup = fault.BadSetup
+fault_of_answer answer.Input = fault.Input
+fault_of_answer answer.TooMuchInput = fault.TooMuchInput
+fault_of_answer (answer.BadLine number) = fault.BadLine number
+fault_of_answer answer.Output = fault.Output
+fault_of_answer answer.OutOfMemory = fault.OutOfMemory

@@ -8,12 +8,16 @@ use Rattle.fw_disk.specs.declared.name.Name.TheVariants.{Main}
 use Rattle.fw_journal.specs.Book.{Stands}
 use Rattle.fw_book.specs.Notes.{Known}
 use Rattle.fw_kept.specs.Kept.{HasBook, HasNotes}
+use Rattle.fw_kept.specs.declared.error.OpenError.{OpenError}
+use Rattle.fw_kept.specs.declared.error.OpenError.TheVariants as opening
 use Rattle.fw_faults.specs.declared.fault.Fault.{Fault}
-use Rattle.fw_faults.specs.declared.fault.Fault.TheVariants.{BadList, BadSetup, BookExists, BookFault, BadBook, BadRecord, CancelRefused, CaptureFault, CounterFault, CounterSpent, ForeignCapture, ForeignHead, Full, ImageFault, ListFault, NoBook, OpenRefused, Output, OutOfMemory, Socket, TooManyFailed}
+use Rattle.fw_faults.specs.declared.fault.Fault.TheVariants.{BadSetup, BookExists, BookFault, BadBook, BadRecord, CancelRefused, CaptureFault, CounterFault, CounterSpent, ForeignCapture, ForeignHead, Full, ImageFault, NoBook, OpenRefused, Output, OutOfMemory, Socket, TooManyFailed}
 use Rattle.fw_rows.specs.Noted.{Noted, noted_of_book}
 use Rattle.fw_status.specs.Campaigns.{campaigns_of}
 use Rattle.fw_status.specs.declared.campaign.CampaignStatus.{CampaignStatus}
 use Rattle.fw_cli.specs.declared.head.HeadOptions.{HeadOptions}
+use Rattle.fw_cli.specs.declared.status.StatusError.{StatusError}
+use Rattle.fw_cli.specs.declared.status.StatusError.TheVariants as status
 use Rattle.fw_cli.specs.Faults.{IsKeyed}
 
 -- ---- the report of `status`
@@ -25,14 +29,30 @@ HasStatus bytes campaigns rows =
     ⊎ ((book : Contents) × (known : Known) × HasBook book.head bytes book × HasNotes bytes known
     × (campaigns ≡ campaigns_of known book) × (rows ≡ noted_of_book known book))
 
--- ---- the faults
+-- A book that isn't read has a reason: no file is there, or another cause of the system's. No other error has one.
+abbrev pub SaysWhy : StatusError → Option Reason → Type 0
+SaysWhy status.NoBook reason = reason ≡ Some (record { name = Main; cause = Missing })
+SaysWhy status.BookFault reason = (cause : Cause) × (cause ≢ Missing) × (reason ≡ Some (record { name = Main; cause = cause }))
+SaysWhy error reason = reason ≡ None
 
--- of the list of meters
-abbrev pub IsOfList : Fault → Type 0
-IsOfList ListFault = Unit {0}
-IsOfList (BadList line) = Unit {0}
-IsOfList OutOfMemory = Unit {0}
-IsOfList fault = ⊥
+-- why a book has no status, for why its bytes hold none
+abbrev pub status_error : OpenError → StatusError
+status_error (opening.BadBook offset) = status.BadBook offset
+status_error (opening.BadRecord index) = status.BadRecord index
+status_error opening.ForeignHead = status.BookFault
+status_error opening.BookFault = status.BookFault
+status_error opening.OutOfMemory = status.OutOfMemory
+
+-- the fault that says why a book has none
+abbrev pub fault_of_status : StatusError → Fault
+fault_of_status status.NoBook = NoBook
+fault_of_status status.BookFault = BookFault
+fault_of_status (status.BadBook offset) = BadBook offset
+fault_of_status (status.BadRecord index) = BadRecord index
+fault_of_status status.Output = Output
+fault_of_status status.OutOfMemory = OutOfMemory
+
+-- ---- the faults
 
 -- of what is opened, before it is
 abbrev pub IsOfOpeningSetup : Fault → Type 0
@@ -104,23 +124,3 @@ IsOfStop Full = Unit {0}
 IsOfStop (TooManyFailed failed) = Unit {0}
 IsOfStop OutOfMemory = Unit {0}
 IsOfStop fault = ⊥
-
--- of `status`, once the book is read
-abbrev pub IsOfReport : Fault → Type 0
-IsOfReport (BadBook offset) = Unit {0}
-IsOfReport (BadRecord index) = Unit {0}
-IsOfReport Output = Unit {0}
-IsOfReport OutOfMemory = Unit {0}
-IsOfReport fault = ⊥
-
--- of `status`
-abbrev pub IsOfStatus : Fault → Type 0
-IsOfStatus NoBook = Unit {0}
-IsOfStatus BookFault = Unit {0}
-IsOfStatus fault = IsOfReport fault
-
--- A book that isn't read has a reason: no file is there, or another cause of the system's. No other fault of `status` has one.
-abbrev pub SaysWhy : Fault → Option Reason → Type 0
-SaysWhy NoBook reason = reason ≡ Some (record { name = Main; cause = Missing })
-SaysWhy BookFault reason = (cause : Cause) × (cause ≢ Missing) × (reason ≡ Some (record { name = Main; cause = cause }))
-SaysWhy fault reason = reason ≡ None

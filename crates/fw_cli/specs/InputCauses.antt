@@ -20,6 +20,8 @@ use Rattle.fw_plan.specs.declared.threshold.MaxFailed.{MaxFailed}
 use Rattle.fw_cli.specs.declared.head.HeadOptions.{HeadOptions}
 use Rattle.fw_cli.specs.declared.input_cause.InputCause.{InputCause}
 use Rattle.fw_cli.specs.declared.input_cause.InputCause.TheVariants.{Busy, Failed, Line}
+use Rattle.fw_cli.specs.declared.keys.KeyMakingError.{KeyMakingError}
+use Rattle.fw_cli.specs.declared.keys.KeyMakingError.TheVariants as keys
 
 -- Of the files nothing is known here, so a text, an image, a book and the meters of a list are some.
 
@@ -48,6 +50,6 @@ IsCauseOf options (TooManyFailed failed) (Failed stop) = IsOfWaves options.max_f
 IsCauseOf options fault cause = ⊥
 
 -- why keys for the meters of a list weren't made
-abbrev pub IsCauseOfKeys : SocketAddr → Fault → InputCause → Type 0
-IsCauseOfKeys own (BadList line) (Line cause) = IsOfText own cause
-IsCauseOfKeys own fault cause = ⊥
+abbrev pub IsCauseOfKeys : SocketAddr → KeyMakingError → InputCause → Type 0
+IsCauseOfKeys own (keys.BadList line) (Line cause) = IsOfText own cause
+IsCauseOfKeys own error cause = ⊥

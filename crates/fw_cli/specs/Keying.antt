@@ -1,14 +1,16 @@
--- Public vocabulary: what `keys` makes and tells, and its faults.
+-- Public vocabulary: what `keys` makes and tells, and the fault that each of its errors is.
 use Rattle.std.specs.Prelude.{◌≡◌, ℕ, List, ◌++◌, Option, codes, flat_map, map}
 use Rattle.std.specs.Io.KnownBytes.{Appends}
 use Rattle.fw_faults.specs.declared.fault.Fault.{Fault}
-use Rattle.fw_faults.specs.declared.fault.Fault.TheVariants.{BadList, KeysFault, ListFault, NoRandomness, Output, OutOfMemory}
+use Rattle.fw_faults.specs.declared.fault.Fault.TheVariants as fault
 use Rattle.fw_host.specs.Lists.{SpellsList}
 use Rattle.fw_host.specs.Waves.{listed_in}
 use Rattle.fw_host.specs.declared.wave_list.Planned.{Planned}
 use Rattle.fw_key_files.specs.Making.{KeyText, all_owners, owners_of, path_in}
 use Rattle.fw_key_files.specs.declared.owner.Owner.{Owner}
 use Rattle.fw_rollout.specs.declared.link.Listed.{Listed}
+use Rattle.fw_cli.specs.declared.keys.KeyMakingError.{KeyMakingError}
+use Rattle.fw_cli.specs.declared.keys.KeyMakingError.TheVariants.{BadList, KeysFault, ListFault, NoRandomness, Output, OutOfMemory}
 use Rattle.fw_cli.specs.declared.keys.KeysOptions.{KeysOptions}
 
 -- the numbers of the meters of a list, in order
@@ -41,16 +43,11 @@ pub record IsAsked (options : KeysOptions) (files : List KeyText) : Type 0 where
   pub spells : SpellsList options.listen text list
   pub owners : owners_of files ≡ all_owners (numbers_of (listed_in list))
 
--- of `keys`, before a file is made
-abbrev pub IsOfAsking : Fault → Type 0
-IsOfAsking ListFault = Unit {0}
-IsOfAsking (BadList line) = Unit {0}
-IsOfAsking NoRandomness = Unit {0}
-IsOfAsking OutOfMemory = Unit {0}
-IsOfAsking fault = ⊥
-
--- of `keys`
-abbrev pub IsOfKeys : Fault → Type 0
-IsOfKeys KeysFault = Unit {0}
-IsOfKeys Output = Unit {0}
-IsOfKeys fault = IsOfAsking fault
+-- the fault that says why keys aren't made
+abbrev pub fault_of_making : KeyMakingError → Fault
+fault_of_making ListFault = fault.ListFault
+fault_of_making (BadList line) = fault.BadList line
+fault_of_making NoRandomness = fault.NoRandomness
+fault_of_making KeysFault = fault.KeysFault
+fault_of_making Output = fault.Output
+fault_of_making OutOfMemory = fault.OutOfMemory

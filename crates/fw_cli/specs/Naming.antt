@@ -6,6 +6,10 @@ use Rattle.hex.specs.Hex.{encode_lower}
 use Rattle.fw_names.specs.Name.{Campaign, SpellsName, name_of}
 use Rattle.fw_book.specs.Contents.{max_image}
 use Rattle.fw_faults.specs.Reading.{ReadsAll}
+use Rattle.fw_faults.specs.declared.fault.Fault.{Fault}
+use Rattle.fw_faults.specs.declared.fault.Fault.TheVariants as fault
+use Rattle.fw_cli.specs.declared.name.NameError.{NameError}
+use Rattle.fw_cli.specs.declared.name.NameError.TheVariants as name
 
 -- All input was read, and it is an image that a campaign can offer: it has 1 to 16,777,216 bytes.
 pub record ReadsImage (before after : Option (List ℕ)) (image : List ℕ) : Type 0 where
@@ -26,3 +30,12 @@ pub record WritesName (naming : Naming) (before after first last : Option (List 
   pub read : ReadsImage before after image
   pub spelled : SpellsName spelling (name_of naming.campaign naming.release image)
   pub written : Appends first last (encode_lower spelling ++ codes "\n")
+
+-- the fault that says why it ended early
+abbrev pub fault_of_name : NameError → Fault
+fault_of_name name.Input = fault.Input
+fault_of_name name.TooMuchInput = fault.TooMuchInput
+fault_of_name name.EmptyImage = fault.EmptyImage
+fault_of_name name.ImageTooLong = fault.ImageTooLong
+fault_of_name name.Output = fault.Output
+fault_of_name name.OutOfMemory = fault.OutOfMemory

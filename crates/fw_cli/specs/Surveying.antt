@@ -6,7 +6,7 @@ use Rattle.std.specs.declared.net.socket_addr.SocketAddr.{SocketAddr}
 use Rattle.sha2.specs.Sha256.{sha256}
 use Rattle.fw_book.specs.Contents.{max_image}
 use Rattle.fw_faults.specs.declared.fault.Fault.{Fault}
-use Rattle.fw_faults.specs.declared.fault.Fault.TheVariants.{BadList, EmptyImage, ImageFault, ImageTooLong, ListFault, OutOfMemory, Output, Socket}
+use Rattle.fw_faults.specs.declared.fault.Fault.TheVariants as fault
 use Rattle.fw_host.specs.Lists.{SpellsList}
 use Rattle.fw_host.specs.Waves.{listed_in}
 use Rattle.fw_host.specs.declared.wave_list.Planned.{Planned}
@@ -18,6 +18,8 @@ use Rattle.fw_survey.specs.Survey.{KeepsMeters}
 use Rattle.fw_cli.specs.InputCauses.{IsOfText}
 use Rattle.fw_cli.specs.declared.input_cause.InputCause.{InputCause}
 use Rattle.fw_cli.specs.declared.input_cause.InputCause.TheVariants.{Line}
+use Rattle.fw_cli.specs.declared.survey.SurveyError.{SurveyError}
+use Rattle.fw_cli.specs.declared.survey.SurveyError.TheVariants.{BadList, EmptyImage, ImageFault, ImageTooLong, ListFault, OutOfMemory, Output, Socket}
 use Rattle.fw_cli.specs.declared.survey.SurveyOffer.{SurveyOffer}
 use Rattle.fw_cli.specs.declared.survey.SurveyOptions.{SurveyOptions}
 
@@ -60,23 +62,18 @@ pub record TellsSurvey (options : SurveyOptions) (before after : Option (List �
   pub offered : IsOfferOf options.offer offer
   pub told : Appends before after (inventory_in options.report rows offer)
 
--- the faults before it writes
-abbrev pub IsOfSurveySetup : Fault → Type 0
-IsOfSurveySetup ListFault = Unit {0}
-IsOfSurveySetup (BadList line) = Unit {0}
-IsOfSurveySetup ImageFault = Unit {0}
-IsOfSurveySetup EmptyImage = Unit {0}
-IsOfSurveySetup ImageTooLong = Unit {0}
-IsOfSurveySetup Socket = Unit {0}
-IsOfSurveySetup OutOfMemory = Unit {0}
-IsOfSurveySetup fault = ⊥
-
--- all of them
-abbrev pub IsOfSurvey : Fault → Type 0
-IsOfSurvey Output = Unit {0}
-IsOfSurvey fault = IsOfSurveySetup fault
+-- the fault that says why it ended early
+abbrev pub fault_of_survey : SurveyError → Fault
+fault_of_survey ListFault = fault.ListFault
+fault_of_survey (BadList line) = fault.BadList line
+fault_of_survey ImageFault = fault.ImageFault
+fault_of_survey EmptyImage = fault.EmptyImage
+fault_of_survey ImageTooLong = fault.ImageTooLong
+fault_of_survey Socket = fault.Socket
+fault_of_survey Output = fault.Output
+fault_of_survey OutOfMemory = fault.OutOfMemory
 
 -- why the line of the list is none
-abbrev pub IsCauseOfSurvey : SocketAddr → Fault → InputCause → Type 0
+abbrev pub IsCauseOfSurvey : SocketAddr → SurveyError → InputCause → Type 0
 IsCauseOfSurvey own (BadList line) (Line cause) = IsOfText own cause
-IsCauseOfSurvey own fault cause = ⊥
+IsCauseOfSurvey own error cause = ⊥

@@ -10,6 +10,7 @@ ghost use Rattle.fw_cli.specs.Heads.{IsOfBeginning, IsOfCancelling, IsOfJudging,
 ghost use Rattle.fw_cli.specs.Judging.{AreTaken, IsJudged};
 ghost use Rattle.fw_cli.specs.Telling.{TellsChanges};
 
+use crate::error::FileError;
 use crate::head::{Asked, bytes_of_file, cancel_one, of_book};
 use fw_book::{Book, BookError};
 use fw_disk::Because;
@@ -67,13 +68,12 @@ pub(crate) fn opened_of<F: Files<File = File> + Clock>(
     if list.is_empty() {
         return Err(Fault::OpenRefused(BookError::NoMeters));
     }
-    let image = bytes_of_file(
-        rt,
-        alloc,
-        opening.image,
-        Fault::ImageFault,
-        Fault::OpenRefused(BookError::ImageTooLong),
-    )?;
+    let image = match bytes_of_file(rt, alloc, opening.image) {
+        Ok(image) => image,
+        Err(FileError::Unread) => return Err(Fault::ImageFault),
+        Err(FileError::TooLong) => return Err(Fault::OpenRefused(BookError::ImageTooLong)),
+        Err(FileError::OutOfMemory) => return Err(Fault::OutOfMemory),
+    };
     Ok(Opened {
         serial: opening.serial,
         release: opening.release,

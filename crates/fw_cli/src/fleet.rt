@@ -33,11 +33,12 @@ ghost use Rattle.fw_host.specs.Captures.{IsOfCapture};
 ghost use Rattle.fw_host.specs.Meters.{IsOfSetup, IsOfStore, default_factory, listening_line};
 ghost use Rattle.fw_cli.specs.declared.fleet.Member.{Member};
 
-use crate::capture_file::{CaptureFile, closing_plain, failure_of};
+use crate::capture_file::{CaptureFile, closing_plain, end_capture, failure_of, start_meters};
 use crate::fleet_watch::FleetWatch;
 use crate::judged::{Judge, Judged};
 use crate::meter::{Listening, MeterFault, MeterOptions, Teller, heads_of, strangers_of};
-use fw_daemon::{Dropped, MeterDaemon, MeterEvent, step};
+use crate::noted_serving::step_noted;
+use fw_daemon::{Dropped, MeterDaemon, MeterEvent};
 use fw_disk::Because;
 use fw_faults::{Fault, write_text};
 use fw_host::{CapturePort, Lines, Strangers, listening_line};
@@ -106,7 +107,7 @@ impl Member {
             &mut common.strangers,
             common.capture.as_mut(),
         );
-        let stepped = step(alloc, &mut port, &mut self.daemon);
+        let stepped = step_noted(alloc, &mut port, &mut self.daemon);
         common.has_heard = port.has_heard();
         common.has_failed = port.has_failed();
         stepped
@@ -216,6 +217,13 @@ fn serve_members<R: Files<File = File> + Clock + Wait, W: Write>(
     ensures asked { IfErr result (λ b. IsOfCapture b.error → IsTrue (is_some options.now.capture)) }
     ensures faults { IfErr result (λ b. IsOfPlainServing b.error) }
 {
+    let mut file = file;
+    let count = options.count.unwrap_or(0);
+    let heads = options.heads.as_slice();
+    match start_meters(rt, alloc, options.capture, file.as_mut(), count, heads) {
+        Ok(()) => {}
+        Err(because) => return Err(because),
+    }
     let common = Common {
         strangers: strangers_of(alloc, &options.heads, options.captures_strangers)?,
         capture: file,
@@ -236,7 +244,10 @@ fn serve_members<R: Files<File = File> + Clock + Wait, W: Write>(
         capture,
         ..
     } = &fleet.common;
-    Err(closing_plain(options.capture, *has_failed, failure_of(capture.as_ref())))
+    let cause = failure_of(capture.as_ref());
+    // If that fails, why the port is closed is told all the same.
+    let _ = end_capture(options.capture, capture.as_ref());
+    Err(closing_plain(options.capture, *has_failed, cause))
 }
 
 /// The ports of meters of the numbers from 1 to this one.
@@ -413,7 +424,7 @@ fn tell_members<W: Write>(alloc: Global, writer: &mut W, members: &[Member]) -> 
     ensures faults { IfErr result (λ f. (f ≡ Fault.Output) ⊎ (f ≡ Fault.OutOfMemory)) }
 {
     let lines = listening_lines(alloc, members)?;
-    write_text(writer, lines.as_str())
+    write_text(writer, lines.as_str()).map_err(|_| Fault::Output)
 }
 
 /// The lines that tell at which addresses datagrams are received.

@@ -28,7 +28,7 @@ use fw_ledger::Ending;
 use fw_names::{CampaignId, HeadId, MeterId};
 use fw_plan::{MeterRange, meters_of};
 use fw_rollout::Ended;
-use std::alloc::Global;
+use std::alloc::{AllocError, Global};
 use std::fs::File;
 use std::io::Write;
 use std::rt::{Clock, Files};
@@ -86,11 +86,10 @@ impl GivenRows {
     }
 
     /// With the row of this meter in this campaign, which was given up.
-    fn push_row(&mut self, campaign: CampaignId, meter: MeterId, end: End) -> Result<(), Fault>
+    fn push_row(&mut self, campaign: CampaignId, meter: MeterId, end: End) -> Result<(), AllocError>
         ensures added { OnOk result (self.new.rows.items
             ≡ self.old.rows.items ++ record { campaign = campaign; meter = meter; ending = Ending.Failed; end = end } ∷ []) }
         ensures lacking { self.new.lacking.items ≡ self.old.lacking.items }
-        ensures memory { IfErr result (λ f. f ≡ Fault.OutOfMemory) }
     {
         self.rows.push(Ended {
             campaign,
@@ -102,10 +101,9 @@ impl GivenRows {
     }
 
     /// With this meter, which had none.
-    fn push_lacking(&mut self, meter: MeterId) -> Result<(), Fault>
+    fn push_lacking(&mut self, meter: MeterId) -> Result<(), AllocError>
         ensures added { OnOk result (self.new.lacking.items ≡ self.old.lacking.items ++ meter ∷ []) }
         ensures rows { self.new.rows.items ≡ self.old.rows.items }
-        ensures memory { IfErr result (λ f. f ≡ Fault.OutOfMemory) }
     {
         self.lacking.push(meter)?;
         Ok(())
@@ -229,12 +227,11 @@ fn give_up_all<D: JournalDevice>(
     kept: &mut KeptHead<D>,
     meters: &[MeterId],
     at: u64,
-) -> Result<GivenRows, Fault>
+) -> Result<GivenRows, AllocError>
     ensures given { IfOk result (λ given. GivesUpAll (head_of kept.old) meters.now at given.rows.items given.lacking.items
         (head_of kept.new)) }
     ensures waits { (synced : Contents) → Holds D.honest D.contents D.may_leave kept.old synced
         → OnOk result (Holds D.honest D.contents D.may_leave kept.new synced) }
-    ensures memory { IfErr result (λ f. f ≡ Fault.OutOfMemory) }
 {
     let mut given = GivenRows::none(alloc);
     for meter in meters {
@@ -250,16 +247,15 @@ fn give_up_one<D: JournalDevice>(
     meter: MeterId,
     at: u64,
     given: &mut GivenRows,
-) -> Result<(), Fault>
+) -> Result<(), AllocError>
     ensures given { OnOk result (AddsOne (head_of kept.old) meter at given.old.rows.items given.new.rows.items given.old.lacking.items
         given.new.lacking.items (head_of kept.new)) }
     ensures waits { (synced : Contents) → Holds D.honest D.contents D.may_leave kept.old synced
         → OnOk result (Holds D.honest D.contents D.may_leave kept.new synced) }
-    ensures memory { IfErr result (λ f. f ≡ Fault.OutOfMemory) }
 {
     let told = match kept.give_up(alloc, meter, WhyGivenUp::ByHand, at) {
         Ok(told) => told,
-        Err(_) => return Err(Fault::OutOfMemory),
+        Err(_) => return Err(AllocError),
     };
     match told {
         Some(row) => {

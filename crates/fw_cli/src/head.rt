@@ -1,6 +1,6 @@
 //! The command `head`: a head end whose book is in a file leads meters over UDP to the images that they are offered.
 
-ghost use Rattle.std.specs.Prelude.{◌≡◌, ◌≢◌, ◌≤◌, ◌⊎◌, ◌∷◌, [], ℕ, List, IfErr, IfOk, IsTrue, OnErr, OnOk, None, Some, false, is_some};
+ghost use Rattle.std.specs.Prelude.{◌≡◌, ◌≢◌, ◌≤◌, ◌∷◌, [], ℕ, List, IfErr, IfOk, IsTrue, OnErr, OnOk, None, Some, false, is_some};
 ghost use Rattle.std.specs.Io.KnownBytes.{Keeps};
 ghost use Rattle.fw_head.specs.Head.{BeginsWith, campaign_at, cancelled_head};
 ghost use Rattle.fw_journal.specs.File.{cause_of};
@@ -16,7 +16,7 @@ ghost use Rattle.fw_host.specs.Telling.{Told};
 ghost use Rattle.fw_book.specs.Changes.{cancel_refusal, empty_book};
 ghost use Rattle.fw_cli.specs.Beginning.{AreChanges, HasLedOut, HasLedTo, IsDaemonOf, IsOpeningOf};
 ghost use Rattle.fw_cli.specs.Judging.{IsJudged};
-ghost use Rattle.fw_cli.specs.Heads.{IsAskedFor, IsOfCancelling, IsOfList, IsOfStop};
+ghost use Rattle.fw_cli.specs.Heads.{IsAskedFor, IsOfCancelling, IsOfStop};
 ghost use Rattle.fw_cli.specs.Reasons.{reason_of};
 ghost use Rattle.fw_cli.specs.Faults.{IsKeyed};
 ghost use Rattle.fw_cli.specs.Sealing.{IsHeadSealing, links_in, links_of, options_of};
@@ -24,27 +24,29 @@ ghost use Rattle.fw_cli.specs.Telling.{TellsChanges, TellsEnded};
 ghost use Rattle.fw_cli.specs.Waves.{AreWaves};
 
 use crate::beginning::{Changes, Opened, begin, judge, opened_of};
-use crate::capture_file::{CaptureFile, closing, failure_of, reason_of};
+use crate::capture_file::{CaptureFile, closing, end_capture, failure_of, reason_of, start_head};
+use crate::error::{FileError, ListFileError};
 use crate::going_on::{tell_going_on, tell_unlisted};
 use crate::head_watch::{HeadTold, Watched};
 use crate::meter::{Listening, RecordedPort, tell_listening};
 use crate::sealing::{JudgedSealing, Keyed, keyed_head};
+use crate::told_files::ToldFiles;
 use crate::waves::{WaveStop, Waves};
 use fw_blocks::Width;
 use fw_book::Book;
 use fw_disk::Because;
-use fw_faults::{Fault, Reads, read_input};
+use fw_events::ToldRows;
+use fw_faults::{Fault, InputError, Reads, read_input};
 use fw_host::{
     BookOptions, CapturePort, ClosedBy, DatagramPort, HeadProgress, Lines, Opening, ProgressOutput,
-    Sealing, SealingOptions, Strangers, UdpHeadPort, WaveList, cancel, check_absent, kept_head,
-    read_list,
+    Sealing, SealingOptions, Strangers, SyncedSink, UdpHeadPort, WaveList, cancel, check_absent,
+    kept_head, read_list,
 };
 use fw_journal::{FileDevice, JournalDevice};
 use fw_kept::KeptHead;
 use fw_names::{CampaignId, HeadId};
 use fw_plan::{MaxFailed, SerialRange, UnlistedRow};
 use fw_port::UdpPort;
-use fw_recording::Sink;
 use fw_rollout::{HeadDaemon, Listed, MeterList, Plan, Stop, Timing};
 use fw_sealport::SealedPort;
 use std::alloc::Global;
@@ -119,23 +121,24 @@ impl LedOut {
 /// The head end leads each live row of its book to its end whose meter is in the list, wave after wave. It may be ended at any moment, and
 /// goes on there when it is run again.
 ///
-/// If a capture is asked for, its file is gone on with, or made if no file is there. It gets the start of the process, and what is received
-/// and sent, each before it is handled or sent. What comes from addresses that are not in the list is counted in it, unless that is asked for
-/// too.
+/// If a capture is asked for, its file is gone on with, or made if no file is there. It gets the start of the head end, once its book is open,
+/// and what is received and sent, each before it is handled or sent. What comes from addresses that are not in the list is counted in it,
+/// unless that is asked for too. The disk has it about a second later, and at the end.
 ///
 /// With keys each datagram that it takes and sends is sealed, on the link of the file of its keys with that meter. What doesn't open is
 /// dropped. The counters of what it sends are in the file of its keys with `.counter` after it, whatever the book is.
 ///
 /// All is judged before a file is made: the list, the image, the keys, the socket, and what is cancelled and opened, as far as the book is
-/// known then, and counters that are there. The file of the capture comes next, then a new one of counters, and a new book last.
+/// known then, and counters that are there. The file of the capture comes next, then a new one of counters, a new book, and those of events
+/// and metrics last.
 ///
 /// The writer gets the line `listening ..`, once datagrams are received, `cancelled ..` and `opened ..` for each campaign, `row ..` for each
 /// row that ended, each once the disk has it, and `over ..` at the end. Each is flushed. After the first, a line that can't be written is
 /// lost. Standard error shows the progress as `progress` says. It is told of records that the book lacks, and of the file that keeps them
 /// ([`kept_head`]), then of each campaign that has live rows from an earlier run, and of each live row whose meter isn't in the list.
 ///
-/// Events and metrics go where `told` says: each line after the first has its event behind it, and each row that ended without one gets it
-/// before others are led. One that can't be written is lost.
+/// Events and metrics go where `files` says, which was judged: each line after the first has its event behind it, and each row that ended
+/// without one gets it before others are led. One that can't be written is lost.
 ///
 /// # Errors
 ///
@@ -152,14 +155,14 @@ impl LedOut {
 /// - `NoCounter`, `CounterExists`: no file of counters is there and none is to be made, or one is there and is to be made. `CounterLocked`:
 ///   another process has it, whatever its book is: one at a time seals with these keys.
 /// - `CaptureFault`: the file of the capture can't be made or opened, or another process has it. Or a record can't be written while the
-///   head end leads: what it is of wasn't handled or sent.
+///   head end leads: what it is of wasn't handled or sent. Or the records can't be put on the disk.
 /// - `ForeignCapture`: the file holds something else than a capture of a daemon. It is left as it is.
 /// - `CounterFault`: the file of the counters can't be made, opened or read, or holds none. Or it can't be written while the head end leads.
 ///   `CounterSpent`: all counters are used. Nothing is sent from then on.
 /// - `CancelRefused`, `OpenRefused`: the book's refusal.
 /// - `BookFault`, `Full`: the file can't be made, opened or written. Nothing of what it lacks was reported.
 /// - `TooManyFailed`: so many rows of the waves before the next one failed that it doesn't begin. Its rows and the later ones are live.
-/// - `Output`: the first line can't be written.
+/// - `Output`: the first line can't be written. Or the file of events or of metrics can't be begun, as `files` has then: nothing was sent.
 /// - `OutOfMemory`.
 ///
 /// Up to `ForeignCapture` nothing was sent, the book has the records of before, and no new one is made. So it is at `CancelRefused`, and at
@@ -169,7 +172,7 @@ pub fn run_head<R: Files<File = File> + Clock + Eprint + Net + Wait, W: Write>(
     alloc: Global,
     writer: &mut W,
     progress: ProgressOutput,
-    told: &HeadTold<'_, R>,
+    files: &mut ToldFiles<'_>,
     options: &HeadOptions<'_>,
 ) -> Result<LedOut, Because<Fault>>
     // If it ends well, what the options ask for was cancelled and opened, and no row is live that a daemon leads. It says whether a row is
@@ -182,6 +185,48 @@ pub fn run_head<R: Files<File = File> + Clock + Eprint + Net + Wait, W: Write>(
     ensures asked { IfErr result (λ b. IsAskedFor options.now b.error) }
     ensures faults { IfErr result (λ b. IsOfHead b.error) }
 {
+    let ready = set_up(rt, alloc, options)?;
+    let begun = files.begin_files(rt, alloc)?;
+    let told = HeadTold {
+        events: begun.events.as_ref(),
+        metrics: files.metrics(rt, alloc),
+    };
+    run_ready(
+        rt,
+        alloc,
+        writer,
+        progress,
+        &told,
+        &begun.rows,
+        ready,
+        options,
+    )
+}
+
+/// The same, once all that it needs is there, and its files are begun. These rows have events.
+fn run_ready<R: Files<File = File> + Clock + Eprint + Wait, W: Write>(
+    rt: &R,
+    alloc: Global,
+    writer: &mut W,
+    progress: ProgressOutput,
+    told: &HeadTold<'_, R>,
+    rows: &ToldRows,
+    ready: Ready,
+    options: &HeadOptions<'_>,
+) -> Result<LedOut, Because<Fault>>
+    requires list { (text : List ℕ) × SpellsList options.now.listen text ready.asked.list }
+    requires opening { IsOpeningOf options.now.opening ready.asked.opened }
+    requires opened { IsTrue (is_some ready.asked.opened) → IsTrue (is_some options.now.opening) }
+    requires number { (book_of ready.kept).head ≡ options.now.head }
+    requires width { BeginsWith (book_of ready.kept) options.now.width (head_of ready.kept) }
+    requires changes { AreChanges (book_of ready.kept) options.now.cancel.items ready.asked.opened (listed_in ready.asked.list) ready.changes }
+    requires links { IsHeadSealing options.now.sealing options.now.head (listed_in ready.asked.list) (links_in ready.sealing) }
+    ensures led { IfOk result (HasLedOut options.now) }
+    ensures stays { OnOk result (options.now.stays ≡ false) }
+    ensures silent { IfErr result (λ b. ComesBeforeLines b.error → Keeps (W.contents writer.old) (W.contents writer.new)) }
+    ensures asked { IfErr result (λ b. IsAskedFor options.now b.error) }
+    ensures faults { IfErr result (λ b. IsOfHead b.error) }
+{
     let Ready {
         port,
         file,
@@ -189,7 +234,7 @@ pub fn run_head<R: Files<File = File> + Clock + Eprint + Net + Wait, W: Write>(
         mut kept,
         changes,
         sealing,
-    } = set_up(rt, alloc, options)?;
+    } = ready;
     let strangers = strangers_of(alloc, options, asked.list.meters().meters())?;
     tell_listening(alloc, writer, &port)?;
     tell_going_on(rt, kept.head().view().book);
@@ -197,7 +242,7 @@ pub fn run_head<R: Files<File = File> + Clock + Eprint + Net + Wait, W: Write>(
     let mut lines = Lines::new(alloc, writer);
     lines.set_events(told.events);
     begin(alloc, &mut lines, &mut kept, changes, asked.opened.take())?;
-    told.catch_up(alloc, kept.head().view().book, kept.notes())?;
+    told.catch_up(alloc, rows, kept.head().view().book, kept.notes())?;
     let unlisted = tell_unlisted(rt, alloc, &kept, asked.list.meters())?;
     let waves = Waves::of_list(alloc, &asked.list, options.max_failed)?;
     let mut daemon = daemon_of(alloc, kept, options)?;
@@ -492,33 +537,28 @@ pub(crate) fn list_of_file<F: Files<File = File> + Net>(
     alloc: Global,
     path: &str,
     own: SocketAddr,
-) -> Result<WaveList, Fault>
+) -> Result<WaveList, ListFileError>
     ensures list { IfOk result (λ list. (text : List ℕ) × SpellsList own text list) }
-    ensures faults { IfErr result IsOfList }
 {
-    let text = bytes_of_file(rt, alloc, path, Fault::ListFault, Fault::ListFault)?;
+    let text = bytes_of_file(rt, alloc, path)?;
     Ok(read_list(rt, alloc, &text, own)?)
 }
 
-/// All bytes of a file, and one of these faults where it can't be read, or has more than 64 MiB.
+/// All bytes of a file.
 pub(crate) fn bytes_of_file<F: Files<File = File>>(
     rt: &F,
     alloc: Global,
     path: &str,
-    fault: Fault,
-    too_long: Fault,
-) -> Result<Vec<u8>, Fault>
-    ensures faults { IfErr result (λ f. (f ≡ fault) ⊎ ((f ≡ too_long) ⊎ (f ≡ Fault.OutOfMemory))) }
-{
+) -> Result<Vec<u8>, FileError> {
     let Ok(mut file) = File::open(rt, path) else {
-        return Err(fault);
+        return Err(FileError::Unread);
     };
     let mut reads = Reads::none();
     match read_input(alloc, &mut file, &mut reads) {
         Ok(bytes) => Ok(bytes),
-        Err(Fault::OutOfMemory) => Err(Fault::OutOfMemory),
-        Err(Fault::TooMuchInput) => Err(too_long),
-        Err(_) => Err(fault),
+        Err(InputError::Input) => Err(FileError::Unread),
+        Err(InputError::TooMuchInput) => Err(FileError::TooLong),
+        Err(InputError::OutOfMemory) => Err(FileError::OutOfMemory),
     }
 }
 
@@ -588,6 +628,10 @@ fn lead<R: Files<File = File> + Clock + Eprint + Wait, W: Write, D: JournalDevic
         capture,
         sealing,
     } = port;
+    match start_head(rt, alloc, capture, file.as_mut(), options.head) {
+        Ok(()) => {}
+        Err(because) => return Err(because),
+    }
     let recorder = file.as_mut();
     let port = CapturePort::of_head(rt, alloc, &mut socket, at, &mut strangers, recorder);
     let clears = output == ProgressOutput::Terminal;
@@ -602,15 +646,21 @@ fn lead<R: Files<File = File> + Clock + Eprint + Wait, W: Write, D: JournalDevic
             lead_plain(rt, alloc, &mut port, output, told, daemon, waves, options)
         }
     };
+    let cause = failure_of(file.as_ref());
+    let ended = end_capture(capture, file.as_ref());
     match led {
         Ok(()) => {}
         Err((WaveStop::Stop(Stop::Closed), by)) => {
-            return Err(closing(capture, options.sealing, by, failure_of(file.as_ref())));
+            return Err(closing(capture, options.sealing, by, cause));
         }
         Err((WaveStop::Stop(stop), _)) => return Err(Because::from(Fault::from(stop))),
         Err((WaveStop::TooManyFailed(stop), _)) => {
             return Err(Because::from(Fault::TooManyFailed(stop.failed)));
         }
+    }
+    match ended {
+        Ok(()) => {}
+        Err(because) => return Err(because),
     }
     let counts = daemon.counts();
     lines.tell_over(counts);
@@ -621,7 +671,7 @@ fn lead<R: Files<File = File> + Clock + Eprint + Wait, W: Write, D: JournalDevic
 fn lead_plain<
     R: Files<File = File> + Clock + Eprint + Wait,
     W: Write,
-    V: Sink + Drop,
+    V: SyncedSink + Drop,
     D: JournalDevice + Drop,
 >(
     rt: &R,
@@ -647,7 +697,7 @@ fn lead_plain<
 fn lead_sealed<
     R: Files<File = File> + Clock + Eprint + Wait,
     W: Write,
-    V: Sink + Drop,
+    V: SyncedSink + Drop,
     D: JournalDevice + Drop,
 >(
     rt: &R,

@@ -4,7 +4,7 @@ ghost use Rattle.std.specs.Prelude.{◌≡◌, IfErr, OnOk};
 
 use crate::going_on::count_in;
 use fw_book::{Book, Notes, RowState};
-use fw_events::{Event, Figures, untold_events};
+use fw_events::{Event, Figures, ToldRows, untold_events};
 use fw_faults::Fault;
 use fw_head::HeadCore;
 use fw_host::{EventFile, HeadProgress, MetricsFile};
@@ -24,13 +24,13 @@ const PAGE: u64 = 15 * SECOND;
 /// The microseconds from one event of progress to the next.
 const MINUTE: u64 = 60 * SECOND;
 
-/// Where the events and the metrics of a head end go.
+/// Where the events and the metrics of a head end go, once their files are begun.
 #[derive(Drop)]
-pub struct HeadTold<'a, R> {
+pub(crate) struct HeadTold<'a, R> {
     /// The file of events, if they are asked for.
-    pub events: Option<&'a EventFile>,
+    pub(crate) events: Option<&'a EventFile>,
     /// The file of metrics, if they are asked for.
-    pub metrics: Option<MetricsFile<'a, R>>,
+    pub(crate) metrics: Option<MetricsFile<'a, R>>,
 }
 
 impl<'a, R: Files<File = File>> HeadTold<'a, R> {
@@ -54,16 +54,18 @@ impl<'a, R: Files<File = File>> HeadTold<'a, R> {
         }
     }
 
-    /// Tells of each row that ended and of which no event told: a kill may come between a commit and an event, and `cancel` and `give-up` end
-    /// rows without one. Of which rows the file tells is in memory for as long as this takes, with the events of one campaign at most. If the
-    /// file can't be read, the next start makes up for them.
-    pub(crate) fn catch_up(&self, alloc: Global, book: &Book, notes: &Notes) -> Result<(), Fault>
+    /// Tells of each row that ended and isn't among these, of which events told: a kill may come between a commit and an event, and `cancel`
+    /// and `give-up` end rows without one. The events of one campaign at most are in memory.
+    pub(crate) fn catch_up(
+        &self,
+        alloc: Global,
+        told: &ToldRows,
+        book: &Book,
+        notes: &Notes,
+    ) -> Result<(), Fault>
         ensures faults { IfErr result (λ f. f ≡ Fault.OutOfMemory) }
     {
         let Some(events) = self.events else {
-            return Ok(());
-        };
-        let Ok(told) = events.told_rows() else {
             return Ok(());
         };
         let head = book.head();
@@ -71,7 +73,7 @@ impl<'a, R: Files<File = File>> HeadTold<'a, R> {
             let Some(campaign) = CampaignId::new(head, *serial) else {
                 continue;
             };
-            for event in &untold_events(alloc, &told, notes, campaign, offer.rows())? {
+            for event in &untold_events(alloc, told, notes, campaign, offer.rows())? {
                 events.tell(*event);
             }
         }

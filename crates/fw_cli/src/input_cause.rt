@@ -7,7 +7,7 @@ ghost use Rattle.fw_plan.specs.Waves.{wave_rows};
 ghost use Rattle.fw_cli.specs.InputCauses.{IsCauseOf, IsCauseOfKeys, IsOfBook, IsOfText, IsOfWaves, IsStopOf};
 
 use crate::head::{HeadOptions, bytes_of_file, list_of_file};
-use crate::keys::KeysOptions;
+use crate::keys::{KeyMakingError, KeysOptions};
 use crate::status::bytes_of_book;
 use fw_book::{Book, BookError};
 use fw_faults::Fault;
@@ -79,17 +79,17 @@ pub fn head_cause<F: Files<File = File> + Net>(
     }
 }
 
-/// Why keys weren't made with these options for this fault, if that is to be seen in the list. It is read as it is now.
+/// Why keys weren't made with these options, if that is to be seen in the list. It is read as it is now.
 pub fn keys_cause<F: Files<File = File> + Net>(
     rt: &F,
     alloc: Global,
     options: &KeysOptions<'_>,
-    fault: Fault,
+    error: KeyMakingError,
 ) -> Option<InputCause>
-    ensures { IfSome result (IsCauseOfKeys options.now.listen fault) }
+    ensures { IfSome result (IsCauseOfKeys options.now.listen error) }
 {
-    match fault {
-        Fault::BadList(line) => {
+    match error {
+        KeyMakingError::BadList(line) => {
             let cause = cause_in_file(rt, alloc, options.meters, options.listen, line)?;
             Some(InputCause::Line(cause))
         }
@@ -107,7 +107,7 @@ pub(crate) fn cause_in_file<F: Files<File = File> + Net>(
 ) -> Option<ListCause>
     ensures { IfSome result (IsOfText own) }
 {
-    let text = bytes_of_file(rt, alloc, path, Fault::ListFault, Fault::ListFault).ok()?;
+    let text = bytes_of_file(rt, alloc, path).ok()?;
     line_cause(rt, alloc, &text, own, line)
 }
 
@@ -122,8 +122,7 @@ fn busy_now<F: Files<File = File> + Net>(
 {
     let list = list_of_file(rt, alloc, options.meters, options.listen).ok()?;
     let meters = listed_meters(alloc, list.meters().meters()).ok()?;
-    let fault = Fault::ImageFault;
-    let image = bytes_of_file(rt, alloc, opening.image, fault, fault).ok()?;
+    let image = bytes_of_file(rt, alloc, opening.image).ok()?;
     let book = book_now(rt, alloc, options.book.path)?;
     busy_in(alloc, &book, opening, &image, &meters)
 }

@@ -2,11 +2,13 @@
 
 ghost use Rattle.std.specs.Prelude.{◌≡◌, ◌≢◌, ◌++◌, IfErr, IfOk, IsTrue, OnOk, Some, is_some, string_bytes};
 ghost use Rattle.std.specs.Io.KnownBytes.{Keeps};
-ghost use Rattle.fw_faults.specs.declared.fault.Fault.TheVariants.{KeysFault};
 ghost use Rattle.fw_key_files.specs.Making.{owners_of};
 ghost use Rattle.fw_key_files.specs.Refusals.{IsOfMaking};
-ghost use Rattle.fw_cli.specs.Keying.{IsAsked, IsOfAsking, IsOfKeys, TellsKeys, lines_of, made_line, made_lines, numbers_of};
+ghost use Rattle.fw_cli.specs.Keying.{IsAsked, TellsKeys, fault_of_making, lines_of, made_line, made_lines, numbers_of};
+ghost use Rattle.fw_cli.specs.Private.{fault_of_list_file};
+ghost use Rattle.fw_cli.specs.declared.keys.KeyMakingError.TheVariants.{KeysFault, OutOfMemory};
 
+use crate::error::ListFileError;
 use crate::head::list_of_file;
 use fw_disk::{Name, Reason};
 use fw_faults::{Fault, write_text};
@@ -16,11 +18,13 @@ use fw_key_files::{
 use fw_names::{HeadId, MeterId};
 use fw_rollout::Listed;
 use std::alloc::{AllocError, Global};
+use std::fmt;
 use std::fs::File;
 use std::io::Write;
 use std::net::{Net, SocketAddr};
 use std::random::RandomSource;
 use std::rt::Files;
+use thiserror::Error;
 
 /// The options of the command.
 #[derive(Clone, Copy)]
@@ -35,35 +39,104 @@ pub struct KeysOptions<'a> {
     pub folder: &'a str,
 }
 
+/// Why keys aren't made. It prints its name, and of a bad line the number too.
+#[derive(Clone, Copy, Debug, Error)]
+pub enum KeyMakingError {
+    /// The list of meters can't be read.
+    ListFault,
+    /// The line of this number, counted from 1, is none of a list.
+    BadList(u64),
+    /// The system gave no random bytes.
+    NoRandomness,
+    /// The file of an end can't be made.
+    KeysFault,
+    /// The writer failed. The files are there.
+    Output,
+    /// Memory was refused.
+    OutOfMemory,
+}
+
+impl fmt::Display for KeyMakingError {
+    fn fmt<W: fmt::Write>(&self, f: &mut fmt::Formatter<W>) -> fmt::Result {
+        match self {
+            KeyMakingError::BadList(number) => write!(f, "BadList {number}"),
+            other => fmt::Debug::fmt(other, f),
+        }
+    }
+}
+
+impl From<AllocError> for KeyMakingError {
+    ghost from_gives = { λ _ e. e ≡ OutOfMemory };
+
+    fn from(_error: AllocError) -> KeyMakingError {
+        KeyMakingError::OutOfMemory
+    }
+}
+
+impl From<ListFileError> for KeyMakingError {
+    ghost from_gives = { λ error e. (fault_of_making e ≡ fault_of_list_file error) × (e ≢ KeysFault) };
+
+    fn from(error: ListFileError) -> KeyMakingError {
+        match error {
+            ListFileError::ListFault => KeyMakingError::ListFault,
+            ListFileError::BadList(number) => KeyMakingError::BadList(number),
+            ListFileError::OutOfMemory => KeyMakingError::OutOfMemory,
+        }
+    }
+}
+
+impl From<KeyMakingError> for Fault {
+    ghost from_gives = { λ error fault. fault ≡ fault_of_making error };
+
+    fn from(error: KeyMakingError) -> Fault {
+        match error {
+            KeyMakingError::ListFault => Fault::ListFault,
+            KeyMakingError::BadList(number) => Fault::BadList(number),
+            KeyMakingError::NoRandomness => Fault::NoRandomness,
+            KeyMakingError::KeysFault => Fault::KeysFault,
+            KeyMakingError::Output => Fault::Output,
+            KeyMakingError::OutOfMemory => Fault::OutOfMemory,
+        }
+    }
+}
+
 /// Why the command ended early.
 #[derive(Clone, Copy, Debug)]
 pub struct KeysFailure {
-    /// The fault.
-    pub fault: Fault,
-    /// Whose file couldn't be made, if that is the fault.
+    /// The error.
+    pub error: KeyMakingError,
+    /// Whose file couldn't be made, if that is the error.
     pub owner: Option<Owner>,
     /// Why.
     pub reason: Option<Reason>,
 }
 
-impl From<Fault> for KeysFailure {
-    ghost from_gives = { λ fault failure. failure.fault ≡ fault };
+impl From<KeyMakingError> for KeysFailure {
+    ghost from_gives = { λ error failure. failure.error ≡ error };
 
-    fn from(fault: Fault) -> KeysFailure {
+    fn from(error: KeyMakingError) -> KeysFailure {
         KeysFailure {
-            fault,
+            error,
             owner: None,
             reason: None,
         }
     }
 }
 
+impl From<AllocError> for KeysFailure {
+    ghost from_gives = { λ _ failure. failure.error ≡ OutOfMemory };
+
+    fn from(_error: AllocError) -> KeysFailure {
+        KeysFailure::from(KeyMakingError::OutOfMemory)
+    }
+}
+
 impl From<NotMade> for KeysFailure {
-    ghost from_gives = { λ not_made failure. (failure.fault ≡ KeysFault) × (failure.owner ≡ Some not_made.owner) };
+    ghost from_gives = { λ not_made failure. (failure.error ≡ KeysFault) × (failure.owner ≡ Some not_made.owner) };
 
     fn from(not_made: NotMade) -> KeysFailure {
         KeysFailure {
-            fault: Fault::KeysFault,
+            error: KeyMakingError::KeysFault,
             owner: Some(not_made.owner),
             reason: Some(not_made.cause.at(Name::Main)),
         }
@@ -91,16 +164,15 @@ pub fn run_keys<F: Files<File = File> + Net + RandomSource, W: Write>(
 ) -> Result<(), KeysFailure>
     // Of the files nothing is known here, so the list is some one.
     ensures told { OnOk result (TellsKeys options.now (W.contents writer.old) (W.contents writer.new)) }
-    ensures silent { IfErr result (λ k. k.fault ≢ Fault.Output → Keeps (W.contents writer.old) (W.contents writer.new)) }
+    ensures silent { IfErr result (λ k. k.error ≢ KeyMakingError.Output → Keeps (W.contents writer.old) (W.contents writer.new)) }
 
     // A file that can't be made is named.
-    ensures owner { IfErr result (λ k. k.fault ≡ Fault.KeysFault → IsTrue (is_some k.owner)) }
-    ensures faults { IfErr result (λ k. IsOfKeys k.fault) }
+    ensures owner { IfErr result (λ k. k.error ≡ KeyMakingError.KeysFault → IsTrue (is_some k.owner)) }
 {
     let files = files_of(rt, alloc, options)?;
     let lines = text_of(alloc, options.folder, &files)?;
     make_files(rt, &files)?;
-    write_text(writer, &lines)?;
+    write_text(writer, &lines).map_err(|_| KeyMakingError::Output)?;
     Ok(())
 }
 
@@ -109,9 +181,9 @@ fn files_of<F: Files<File = File> + Net + RandomSource>(
     rt: &F,
     alloc: Global,
     options: &KeysOptions<'_>,
-) -> Result<Vec<NewFile>, Fault>
+) -> Result<Vec<NewFile>, KeyMakingError>
     ensures files { IfOk result (λ files. IsAsked options.now files.items) }
-    ensures faults { IfErr result IsOfAsking }
+    ensures unmade { IfErr result (λ e. e ≢ KeyMakingError.KeysFault) }
 {
     let list = list_of_file(rt, alloc, options.meters, options.listen)?;
     let meters = numbers_of(alloc, list.meters().meters())?;
@@ -123,7 +195,7 @@ fn files_of<F: Files<File = File> + Net + RandomSource>(
     };
     match new_files(&SystemRandomness::of(rt), alloc, &making) {
         Ok(files) => Ok(files),
-        Err(error) => Err(fault_of(error)),
+        Err(error) => Err(making_error(error)),
     }
 }
 
@@ -138,24 +210,23 @@ fn numbers_of(alloc: Global, list: &[Listed]) -> Result<Vec<MeterId>, AllocError
     Ok(meters)
 }
 
-/// The fault that keys weren't made for.
-fn fault_of(error: KeyFileError) -> Fault
+/// Why keys weren't made, before a file was.
+fn making_error(error: KeyFileError) -> KeyMakingError
     requires { IsOfMaking error }
-    ensures { IsOfAsking result }
+    ensures { result ≢ KeyMakingError.KeysFault }
 {
     match error {
-        KeyFileError::NoRandomness => Fault::NoRandomness,
+        KeyFileError::NoRandomness => KeyMakingError::NoRandomness,
         // A meter stands in the list twice.
-        KeyFileError::BadKeys(at, _) => Fault::BadList(at),
-        KeyFileError::OutOfMemory => Fault::OutOfMemory,
+        KeyFileError::BadKeys(at, _) => KeyMakingError::BadList(at),
+        KeyFileError::OutOfMemory => KeyMakingError::OutOfMemory,
         KeyFileError::KeysFault | KeyFileError::KeysReadable => unreachable!(),
     }
 }
 
 /// The lines of these files in their folder.
-fn text_of(alloc: Global, folder: &str, files: &[NewFile]) -> Result<String, Fault>
-    ensures lines { IfOk result (λ text. string_bytes text ≡ made_lines folder.now (owners_of files.now)) }
-    ensures faults { IfErr result (λ f. f ≡ Fault.OutOfMemory) }
+fn text_of(alloc: Global, folder: &str, files: &[NewFile]) -> Result<String, AllocError>
+    ensures { IfOk result (λ text. string_bytes text ≡ made_lines folder.now (owners_of files.now)) }
 {
     let mut text = String::new(alloc);
     append_lines(&mut text, folder, files)?;

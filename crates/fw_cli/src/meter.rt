@@ -15,22 +15,22 @@ ghost use Rattle.fw_host.specs.Telling.{Told};
 ghost use Rattle.fw_cli.specs.Sealing.{IsMeterSealing, links_in};
 ghost use Rattle.fw_cli.specs.Telling.{IsSaid, TellsRounds, happenings_by, lack_of, lines_of};
 
-use crate::capture_file::{CaptureFile, closing, failure_of};
+use crate::capture_file::{CaptureFile, closing, end_capture, failure_of, start_meters};
 use crate::fleet::serve_fleet;
 use crate::fleet_watch::FleetWatch;
 use crate::judged::Judge;
 use crate::limit::{Limit, is_due};
+use crate::noted_serving::serve_noted;
 use crate::sealing::{JudgedSealing, keyed_meter};
-use fw_daemon::{Dropped, MeterDaemon, MeterEvent, Watch, serve};
+use fw_daemon::{Dropped, MeterDaemon, MeterEvent, Watch};
 use fw_disk::{Because, Reason};
 use fw_faults::{Fault, write_text};
 use fw_host::{
     CapturePort, ClosedBy, DatagramPort, Lines, NewMeter, Sealing, SealingOptions, Strangers,
-    listening_line,
+    SyncedSink, listening_line,
 };
 use fw_journal::FileDevice;
-use fw_port::{Closed, NoReport, Port, SocketError, UdpPort};
-use fw_recording::Sink;
+use fw_port::{Closed, SocketError, UdpPort};
 use fw_sealport::SealedPort;
 use fw_store::FileStore;
 use std::alloc::Global;
@@ -118,9 +118,9 @@ impl From<Fault> for MeterFault {
 /// With a count K there are meters 1 to K: meter N receives at the port of the options and N - 1 more, and its file is that of the options
 /// with `.N` after it.
 ///
-/// If a capture is asked for, its file is gone on with, or made if no file is there. It gets the start of the process, what is received
-/// and sent, each before it is handled or sent, and each turn of a verification. What comes from addresses that may not ask is counted in it,
-/// unless that is asked for too.
+/// If a capture is asked for, its file is gone on with, or made if no file is there. It gets the start of the process, once each meter's file is
+/// open, with the addresses that may ask; what is received and sent, each before it is handled or sent; and each turn of a verification. What
+/// comes from addresses that may not ask is counted in it, unless that is asked for too. The disk has it about a second later, and at the end.
 ///
 /// With keys there is one meter, and each datagram that it takes and sends is sealed, on one of the links of the file of its keys. What comes
 /// from elsewhere, or doesn't open, is dropped. The counters of what it sends are in the file of its keys with `.counter` after it, whatever
@@ -154,7 +154,7 @@ impl From<Fault> for MeterFault {
 /// - `FactoryFault`: no file is there, and the one of the factory image can't be read. No file was made.
 /// - `BadSetup`: no file is there, and the options describe no meter. No file was made.
 /// - `CaptureFault`: the file of the capture can't be made or opened, or another process has it. No file of a meter was made. Or a record
-///   can't be written while the meter serves: what it is of wasn't handled or sent.
+///   can't be written once the meter is there: what it is of wasn't handled or sent. Or the records can't be put on the disk.
 /// - `ForeignCapture`: the file holds something else than a capture of a daemon. It is left as it is, and no file of a meter was made.
 /// - `Output`: the first line can't be written.
 /// - `OutOfMemory`: it didn't serve.
@@ -287,6 +287,11 @@ fn serve_daemon<R: Files<File = File> + Clock + Wait, W: Write>(
         capture,
         sealing,
     } = port;
+    let heads = options.heads.as_slice();
+    match start_meters(rt, alloc, capture, file.as_mut(), 0, heads) {
+        Ok(()) => {}
+        Err(because) => return Err(because),
+    }
     tell_listening(alloc, writer, &port)?;
     let Listening {
         port: mut socket,
@@ -302,11 +307,14 @@ fn serve_daemon<R: Files<File = File> + Clock + Wait, W: Write>(
         }
         None => serve_plain(rt, alloc, &mut lines, &mut port, daemon, options),
     };
-    Err(closing(capture, options.sealing, by, failure_of(file.as_ref())))
+    let cause = failure_of(file.as_ref());
+    // If that fails, why the port is closed is told all the same.
+    let _ = end_capture(capture, file.as_ref());
+    Err(closing(capture, options.sealing, by, cause))
 }
 
 /// Serves this meter, which has no keys, until its port is closed. It returns why that is.
-fn serve_plain<R: Clock + Wait, W: Write, V: Sink + Drop>(
+fn serve_plain<R: Clock + Wait, W: Write, V: SyncedSink + Drop>(
     rt: &R,
     alloc: Global,
     lines: &mut Lines<'_, W>,
@@ -321,7 +329,7 @@ fn serve_plain<R: Clock + Wait, W: Write, V: Sink + Drop>(
 }
 
 /// Serves this meter over the links of its keys alone, until its port is closed. It returns why that is.
-fn serve_sealed<R: Clock + Wait, W: Write, V: Sink + Drop>(
+fn serve_sealed<R: Clock + Wait, W: Write, V: SyncedSink + Drop>(
     rt: &R,
     alloc: Global,
     lines: &mut Lines<'_, W>,
@@ -336,7 +344,7 @@ fn serve_sealed<R: Clock + Wait, W: Write, V: Sink + Drop>(
 }
 
 /// Serves this meter, until its port is closed, and writes the lines of what there is to tell of it.
-fn serve_told<R: Clock + Wait, W: Write, P: Port<NoReport>>(
+fn serve_told<R: Clock + Wait, W: Write, P: DatagramPort>(
     rt: &R,
     alloc: Global,
     lines: &mut Lines<'_, W>,
@@ -350,7 +358,7 @@ fn serve_told<R: Clock + Wait, W: Write, P: Port<NoReport>>(
 }
 
 /// The same, told by this teller: what there is to tell of each round, once and in order.
-fn serve_watched<R: Clock + Wait, W: Write, P: Port<NoReport>>(
+fn serve_watched<R: Clock + Wait, W: Write, P: DatagramPort>(
     rt: &R,
     alloc: Global,
     port: &mut P,
@@ -364,7 +372,7 @@ fn serve_watched<R: Clock + Wait, W: Write, P: Port<NoReport>>(
     ensures told { TellsRounds (daemon_of daemon.old) (daemon_of daemon.new) teller.old.lines.now.lost teller.new.lines.now.lost
         (W.contents teller.old.lines.now.writer.now) (W.contents teller.new.lines.now.writer.now) }
 {
-    serve(rt, alloc, port, daemon, teller)
+    serve_noted(rt, alloc, port, daemon, teller)
 }
 
 /// A port, with the address that it has.
@@ -533,5 +541,5 @@ pub(crate) fn tell_listening<W: Write>(
     ensures faults { IfErr result (λ f. (f ≡ Fault.Output) ⊎ (f ≡ Fault.OutOfMemory)) }
 {
     let line = listening_line(alloc, port.at)?;
-    write_text(writer, line.as_str())
+    write_text(writer, line.as_str()).map_err(|_| Fault::Output)
 }

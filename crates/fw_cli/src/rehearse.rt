@@ -1,31 +1,34 @@
 //! The command `rehearse`: several workers make rounds after the events of a script, and the report of the world is written.
 
-ghost use Rattle.std.specs.Prelude.{◌≡◌, ◌≢◌, IfOk, IfErr, OnOk, string_bytes};
+ghost use Rattle.std.specs.Prelude.{◌≡◌, ◌≢◌, ◌⊎◌, IfOk, IfErr, OnOk, string_bytes};
 ghost use Rattle.std.specs.Io.KnownBytes.{Keeps};
 ghost use Rattle.std.specs.Option.{option_map};
 ghost use Rattle.fw_world.specs.Setup.{IsSetup};
 ghost use Rattle.fw_air.specs.Fates.{IsFates};
+ghost use Rattle.fw_script.specs.declared.error.FatesError.TheVariants as fates;
 ghost use Rattle.fw_script.specs.Fates.{SpellsSome};
-ghost use Rattle.fw_cli.specs.Faults.{IsOfRehearse, IsOfWorkers};
-ghost use Rattle.fw_cli.specs.Private.{HasNoReport};
+ghost use Rattle.fw_cli.specs.Private.{HasNoReport, IsOfWorkers, fault_of_run_capture, fault_of_script_input, fault_of_workers};
 ghost use Rattle.fw_cli.specs.Replaying.{MayWantFor};
 ghost use Rattle.fw_workers.specs.Deals.{AreWorkers};
 ghost use Rattle.fw_cli.specs.Rehearsing.{MayWantToRehearse, Rehearses, TellsRehearsal, WritesRehearsal};
-ghost use Rattle.fw_cli.specs.Scripts.{EndsBy, MakesNoneFor};
+ghost use Rattle.fw_cli.specs.Scripts.{EndsBy, MakesNoneFor, fault_of_fates, fault_of_rehearsal};
+ghost use Rattle.fw_cli.specs.declared.rehearse.RehearsalError.TheVariants.{BadFates, OutOfMemory};
 
-use crate::capture::write_capture;
+use crate::capture::{RunCaptureError, write_capture};
 use crate::progress::RowsGate;
 use crate::replay::{Air, Rounds, air_of};
-use crate::workers::{Told, fault_of, script_from, tell_report};
+use crate::workers::{ScriptInputError, Told, script_from, tell_report};
 use fw_air::Fates;
 use fw_faults::{Fault, write_text};
-use fw_script::Script;
-use fw_workers::rehearse;
+use fw_script::{FatesError, Script};
+use fw_workers::{RehearseError, rehearse};
 use fw_world::{Event, Setup};
-use std::alloc::Global;
+use std::alloc::{AllocError, Global};
+use std::fmt;
 use std::io::{Read, Write};
 use std::sync::Wait;
 use std::thread::Threads;
+use thiserror::Error;
 
 /// The options of the command.
 #[derive(Clone, Copy)]
@@ -36,6 +39,106 @@ pub struct RehearseOptions<'a> {
     pub workers: u32,
     /// Whether a line for each datagram that was sent stands before the report.
     pub trace: bool,
+}
+
+/// Why the command ended early. It prints its name, and of a bad line the number too.
+#[derive(Clone, Copy, Debug, Error)]
+pub enum RehearsalError {
+    /// The fates aren't 1 to 4,096 of the letters `d`, `x`, `t` and `l`.
+    BadFates,
+    /// The reader failed, or came to no end within 2^32 reads.
+    Input,
+    /// The reader had more than 64 MiB.
+    TooMuchInput,
+    /// The line of this number, counted from 1, can't go on with the script that the lines before it begin.
+    BadLine(u64),
+    /// No world can be made of the setup, or the workers are not 1 to 8.
+    BadSetup,
+    /// An event of the script was refused, for another cause than memory.
+    Event,
+    /// What the workers left isn't what their record says.
+    Mismatch,
+    /// A thread could not be started.
+    ThreadRefused,
+    /// The writer of captures failed, or a datagram makes no record.
+    CaptureFault,
+    /// The writer failed.
+    Output,
+    /// Memory was refused.
+    OutOfMemory,
+}
+
+impl fmt::Display for RehearsalError {
+    fn fmt<W: fmt::Write>(&self, f: &mut fmt::Formatter<W>) -> fmt::Result {
+        match self {
+            RehearsalError::BadLine(number) => write!(f, "BadLine {number}"),
+            other => fmt::Debug::fmt(other, f),
+        }
+    }
+}
+
+impl From<AllocError> for RehearsalError {
+    ghost from_gives = { λ _ e. e ≡ OutOfMemory };
+
+    fn from(_error: AllocError) -> RehearsalError {
+        RehearsalError::OutOfMemory
+    }
+}
+
+impl From<FatesError> for RehearsalError {
+    ghost from_gives = { λ error e.
+        (fault_of_rehearsal e ≡ fault_of_fates error) × (((error ≡ fates.BadFates) × (e ≡ BadFates)) ⊎ ((error ≡ fates.OutOfMemory) × (e ≡ OutOfMemory))) };
+
+    fn from(error: FatesError) -> RehearsalError {
+        match error {
+            FatesError::BadFates => RehearsalError::BadFates,
+            FatesError::OutOfMemory => RehearsalError::OutOfMemory,
+        }
+    }
+}
+
+impl From<ScriptInputError> for RehearsalError {
+    ghost from_gives = { λ error e. (fault_of_rehearsal e ≡ fault_of_script_input error) × (e ≢ BadFates) };
+
+    fn from(error: ScriptInputError) -> RehearsalError {
+        match error {
+            ScriptInputError::Input => RehearsalError::Input,
+            ScriptInputError::TooMuchInput => RehearsalError::TooMuchInput,
+            ScriptInputError::BadLine(number) => RehearsalError::BadLine(number),
+            ScriptInputError::OutOfMemory => RehearsalError::OutOfMemory,
+        }
+    }
+}
+
+impl From<RunCaptureError> for RehearsalError {
+    ghost from_gives = { λ error e. (fault_of_rehearsal e ≡ fault_of_run_capture error) × (e ≢ BadFates) };
+
+    fn from(error: RunCaptureError) -> RehearsalError {
+        match error {
+            RunCaptureError::CaptureFault => RehearsalError::CaptureFault,
+            RunCaptureError::OutOfMemory => RehearsalError::OutOfMemory,
+        }
+    }
+}
+
+impl From<RehearsalError> for Fault {
+    ghost from_gives = { λ error fault. fault ≡ fault_of_rehearsal error };
+
+    fn from(error: RehearsalError) -> Fault {
+        match error {
+            RehearsalError::BadFates => Fault::BadFates,
+            RehearsalError::Input => Fault::Input,
+            RehearsalError::TooMuchInput => Fault::TooMuchInput,
+            RehearsalError::BadLine(number) => Fault::BadLine(number),
+            RehearsalError::BadSetup => Fault::BadSetup,
+            RehearsalError::Event => Fault::Event,
+            RehearsalError::Mismatch => Fault::Mismatch,
+            RehearsalError::ThreadRefused => Fault::ThreadRefused,
+            RehearsalError::CaptureFault => Fault::CaptureFault,
+            RehearsalError::Output => Fault::Output,
+            RehearsalError::OutOfMemory => Fault::OutOfMemory,
+        }
+    }
 }
 
 /// Runs the script that the reader has, and lets workers make rounds after its events. The writer gets the report of the world at the
@@ -70,7 +173,7 @@ pub fn run_rehearse<T: Threads + Wait + Sync, R: Read, W: Write, C: Write, E: Ep
     capture: &mut Option<C>,
     terminal: Option<&E>,
     options: &RehearseOptions<'_>,
-) -> Result<(), Fault>
+) -> Result<(), RehearsalError>
     // The report of the world at the end of an accounted run, and its board, and the capture of the run.
     ensures ok { OnOk result (Rehearses options.now (R.remaining reader.old) (R.remaining reader.new)
         (option_map C.contents capture.old) (option_map C.contents capture.new) (W.contents writer.old) (W.contents writer.new)) }
@@ -78,15 +181,14 @@ pub fn run_rehearse<T: Threads + Wait + Sync, R: Read, W: Write, C: Write, E: Ep
     ensures workers { OnOk result (AreWorkers options.now.workers) }
 
     // Bad fates are refused before anything is read, and no others are.
-    ensures bad_fates { result ≡ Err Fault.BadFates → ¬ SpellsSome options.now.rounds.fates.now }
-    ensures fates_refused { ¬ SpellsSome options.now.rounds.fates.now → result ≡ Err Fault.BadFates }
+    ensures bad_fates { result ≡ Err RehearsalError.BadFates → ¬ SpellsSome options.now.rounds.fates.now }
+    ensures fates_refused { ¬ SpellsSome options.now.rounds.fates.now → result ≡ Err RehearsalError.BadFates }
     ensures fates_first { ¬ SpellsSome options.now.rounds.fates.now → Keeps (R.remaining reader.old) (R.remaining reader.new) }
 
     // What it is refused for, and what it did until then. Memory may be wanted for good fates too.
-    ensures ends { IfErr result (EndsBy (MayWantToRehearse options.now (R.remaining reader.old) (R.remaining reader.new)) (MakesNoneFor options.now.workers)
-        (R.remaining reader.old) (R.remaining reader.new) capture.old capture.new (W.contents writer.old) (W.contents writer.new)) }
-
-    ensures faults { IfErr result IsOfRehearse }
+    ensures ends { IfErr result (λ e. EndsBy (MayWantToRehearse options.now (R.remaining reader.old) (R.remaining reader.new)) (MakesNoneFor options.now.workers)
+        (R.remaining reader.old) (R.remaining reader.new) capture.old capture.new (W.contents writer.old) (W.contents writer.new)
+        (fault_of_rehearsal e)) }
 {
     let air = air_of(alloc, &options.rounds)?;
     rehearse_from(
@@ -113,20 +215,23 @@ fn rehearse_from<T: Threads + Wait + Sync, R: Read, W: Write, C: Write, E: Eprin
     air: &Air,
     workers: u32,
     trace: bool,
-) -> Result<(), Fault>
+) -> Result<(), RehearsalError>
     requires fates { IsFates air.now.fates.items }
     ensures ok { OnOk result (WritesRehearsal trace air.now.rounds workers (R.remaining reader.old) (R.remaining reader.new)
         (option_map C.contents capture.old) (option_map C.contents capture.new) (W.contents writer.old) (W.contents writer.new)) }
     ensures workers { OnOk result (AreWorkers workers) }
-    ensures not_fates { result ≢ Err Fault.BadFates }
-    ensures ends { IfErr result (EndsBy (MayWantFor (R.remaining reader.old) (R.remaining reader.new)) (MakesNoneFor workers)
-        (R.remaining reader.old) (R.remaining reader.new) capture.old capture.new (W.contents writer.old) (W.contents writer.new)) }
-    ensures faults { IfErr result IsOfRehearse }
+    ensures not_fates { result ≢ Err RehearsalError.BadFates }
+    ensures ends { IfErr result (λ e. EndsBy (MayWantFor (R.remaining reader.old) (R.remaining reader.new)) (MakesNoneFor workers)
+        (R.remaining reader.old) (R.remaining reader.new) capture.old capture.new (W.contents writer.old) (W.contents writer.new)
+        (fault_of_rehearsal e)) }
 {
     let Script { setup, events } = script_from(alloc, reader)?;
     let told = tell_rehearsal(rt, alloc, &setup, &events, terminal, air, workers, trace)?;
     write_capture(alloc, capture, told.world.sent())?;
-    write_text(writer, told.text.as_str())
+    match write_text(writer, told.text.as_str()) {
+        Ok(()) => Ok(()),
+        Err(_) => Err(RehearsalError::Output),
+    }
 }
 
 /// What is written of a rehearsal: its trace, if it is asked for, the report of its world, and the line of its board.
@@ -139,13 +244,13 @@ fn tell_rehearsal<T: Threads + Wait + Sync, E: Eprint + Sync>(
     air: &Air,
     workers: u32,
     trace: bool,
-) -> Result<Told, Fault>
+) -> Result<Told, RehearsalError>
     requires fates { IsFates air.now.fates.items }
     ensures ok { IfOk result (λ told. TellsRehearsal trace air.now.rounds workers setup.now events.now told.world (string_bytes told.text)) }
     ensures made { OnOk result (IsSetup setup.now) }
     ensures workers { OnOk result (AreWorkers workers) }
-    ensures unreported { IfErr result (HasNoReport workers setup.now events.now) }
-    ensures faults { IfErr result IsOfWorkers }
+    ensures unreported { IfErr result (λ e. HasNoReport workers setup.now events.now (fault_of_rehearsal e)) }
+    ensures faults { IfErr result (λ e. IsOfWorkers (fault_of_rehearsal e)) }
 {
     let Some(fates) = Fates::new(&air.fates) else {
         unreachable!()
@@ -153,11 +258,28 @@ fn tell_rehearsal<T: Threads + Wait + Sync, E: Eprint + Sync>(
     let gate = RowsGate::new(terminal, events);
     let report = match rehearse(rt, alloc, setup, events, air.rounds, workers, &fates, &gate) {
         Ok(report) => report,
-        Err(error) => return Err(fault_of(error)),
+        Err(error) => return Err(rehearsal_error(error)),
     };
     let text = tell_report(alloc, setup, events, &report, trace)?;
     Ok(Told {
         text,
         world: report.world,
     })
+}
+
+/// Why the workers of a rehearsal have no report. They have no wires, and no gate shuts.
+fn rehearsal_error(error: RehearseError) -> RehearsalError
+    requires wireless { error ≢ RehearseError.Socket }
+    requires unshut { error ≢ RehearseError.GateShut }
+    ensures fault { fault_of_rehearsal result ≡ fault_of_workers error }
+    ensures of_workers { IsOfWorkers (fault_of_rehearsal result) }
+{
+    match error {
+        RehearseError::Mismatch => RehearsalError::Mismatch,
+        RehearseError::ThreadRefused => RehearsalError::ThreadRefused,
+        RehearseError::Event(_) => RehearsalError::Event,
+        RehearseError::OutOfMemory => RehearsalError::OutOfMemory,
+        RehearseError::BadSetup => RehearsalError::BadSetup,
+        RehearseError::Socket | RehearseError::GateShut => unreachable!(),
+    }
 }

@@ -23,10 +23,11 @@ ghost use Rattle.fw_world.specs.Runs.{IsStopped, events_of};
 ghost use Rattle.fw_world.specs.Setup.{IsSetup};
 ghost use Rattle.fw_air.specs.Fates.{IsFates};
 ghost use Rattle.fw_air.specs.Schedules.{IsOfWorld};
+ghost use Rattle.fw_script.specs.declared.error.FatesError.TheVariants as fates;
 ghost use Rattle.fw_script.specs.Fates.{SpellsFates, SpellsSome};
-ghost use Rattle.fw_cli.specs.Faults.{IsOfReplay};
-ghost use Rattle.fw_cli.specs.Private.{rounds_in};
-ghost use Rattle.fw_script.specs.Script.{IsBadLine};
+ghost use Rattle.fw_faults.specs.Faults.{fault_of_input};
+ghost use Rattle.fw_cli.specs.Private.{fault_of_run_capture, rounds_in};
+ghost use Rattle.fw_script.specs.Script.{BeginsScript, IsBadLine, SpellsScript, script_of};
 ghost use Rattle.fw_cli.specs.Replaying.{
   Replays,
   WritesRun,
@@ -42,18 +43,20 @@ ghost use Rattle.fw_cli.specs.Replaying.{
   GoesOn,
   WantsMemory,
 };
-ghost use Rattle.fw_cli.specs.Scripts.{EndsBy};
+ghost use Rattle.fw_cli.specs.Scripts.{EndsBy, fault_of_fates, fault_of_replay};
+ghost use Rattle.fw_cli.specs.declared.replay.ReplayingError.TheVariants.{BadFates, OutOfMemory};
 
-use crate::capture::write_capture;
+use crate::capture::{RunCaptureError, write_capture};
 use crate::progress::RoundsWatch;
-use crate::workers::script_of;
 use fw_air::{Fate, Fates, schedule_watched};
-use fw_faults::{Fault, Reads, read_input, write_text};
+use fw_faults::{Fault, InputError, Reads, read_input, write_text};
 use fw_report::{Refusal, Style, append_report_in, append_trace_of};
-use fw_script::{FatesError, Script, read_fates};
+use fw_script::{FatesError, Script, ScriptError, read_fates, read_script};
 use fw_world::{Event, RunError, Setup, SetupError, StepError, World, run};
 use std::alloc::{AllocError, Global};
+use std::fmt;
 use std::io::{Read, Write};
+use thiserror::Error;
 
 /// The options of the command.
 #[derive(Clone, Copy)]
@@ -72,6 +75,96 @@ pub struct Rounds<'a> {
     /// The fates of the datagrams of a link, a letter each, 1 to 4,096 of them, which are repeated: `d` it comes, `x` it is lost, `t` it
     /// comes twice, `l` it comes at the beginning of the next round.
     pub fates: &'a str,
+}
+
+/// Why the command ended early. It prints its name, and of a bad line the number too.
+#[derive(Clone, Copy, Debug, Error)]
+pub enum ReplayingError {
+    /// The fates aren't 1 to 4,096 of the letters `d`, `x`, `t` and `l`.
+    BadFates,
+    /// The reader failed, or came to no end within 2^32 reads.
+    Input,
+    /// The reader had more than 64 MiB.
+    TooMuchInput,
+    /// The line of this number, counted from 1, can't go on with the script that the lines before it begin.
+    BadLine(u64),
+    /// No world can be made of the setup.
+    BadSetup,
+    /// The writer of captures failed, or a datagram makes no record.
+    CaptureFault,
+    /// The writer failed.
+    Output,
+    /// Memory was refused.
+    OutOfMemory,
+}
+
+impl fmt::Display for ReplayingError {
+    fn fmt<W: fmt::Write>(&self, f: &mut fmt::Formatter<W>) -> fmt::Result {
+        match self {
+            ReplayingError::BadLine(number) => write!(f, "BadLine {number}"),
+            other => fmt::Debug::fmt(other, f),
+        }
+    }
+}
+
+impl From<AllocError> for ReplayingError {
+    ghost from_gives = { λ _ e. e ≡ OutOfMemory };
+
+    fn from(_error: AllocError) -> ReplayingError {
+        ReplayingError::OutOfMemory
+    }
+}
+
+impl From<FatesError> for ReplayingError {
+    ghost from_gives = { λ error e.
+        (fault_of_replay e ≡ fault_of_fates error) × (((error ≡ fates.BadFates) × (e ≡ BadFates)) ⊎ ((error ≡ fates.OutOfMemory) × (e ≡ OutOfMemory))) };
+
+    fn from(error: FatesError) -> ReplayingError {
+        match error {
+            FatesError::BadFates => ReplayingError::BadFates,
+            FatesError::OutOfMemory => ReplayingError::OutOfMemory,
+        }
+    }
+}
+
+impl From<InputError> for ReplayingError {
+    ghost from_gives = { λ error e. (fault_of_replay e ≡ fault_of_input error) × (e ≢ BadFates) };
+
+    fn from(error: InputError) -> ReplayingError {
+        match error {
+            InputError::Input => ReplayingError::Input,
+            InputError::TooMuchInput => ReplayingError::TooMuchInput,
+            InputError::OutOfMemory => ReplayingError::OutOfMemory,
+        }
+    }
+}
+
+impl From<RunCaptureError> for ReplayingError {
+    ghost from_gives = { λ error e. (fault_of_replay e ≡ fault_of_run_capture error) × (e ≢ BadFates) };
+
+    fn from(error: RunCaptureError) -> ReplayingError {
+        match error {
+            RunCaptureError::CaptureFault => ReplayingError::CaptureFault,
+            RunCaptureError::OutOfMemory => ReplayingError::OutOfMemory,
+        }
+    }
+}
+
+impl From<ReplayingError> for Fault {
+    ghost from_gives = { λ error fault. fault ≡ fault_of_replay error };
+
+    fn from(error: ReplayingError) -> Fault {
+        match error {
+            ReplayingError::BadFates => Fault::BadFates,
+            ReplayingError::Input => Fault::Input,
+            ReplayingError::TooMuchInput => Fault::TooMuchInput,
+            ReplayingError::BadLine(number) => Fault::BadLine(number),
+            ReplayingError::BadSetup => Fault::BadSetup,
+            ReplayingError::CaptureFault => Fault::CaptureFault,
+            ReplayingError::Output => Fault::Output,
+            ReplayingError::OutOfMemory => Fault::OutOfMemory,
+        }
+    }
 }
 
 /// How the run of a script ended.
@@ -127,21 +220,20 @@ pub fn run_replay<R: Read, W: Write, C: Write, E: Eprint>(
     capture: &mut Option<C>,
     terminal: Option<&E>,
     options: &ReplayOptions<'_>,
-) -> Result<Ended, Fault>
+) -> Result<Ended, ReplayingError>
     // The report of the whole run, or of the run up to the event that is refused, and its capture.
     ensures ok { IfOk result (λ ended. Replays options.now ended (R.remaining reader.old) (R.remaining reader.new)
         (option_map C.contents capture.old) (option_map C.contents capture.new) (W.contents writer.old) (W.contents writer.new)) }
 
     // Bad fates are refused before anything is read, and no others are.
-    ensures bad_fates { result ≡ Err Fault.BadFates → HasBadFates options.now.rounds }
-    ensures fates_refused { HasBadFates options.now.rounds → result ≡ Err Fault.BadFates }
+    ensures bad_fates { result ≡ Err ReplayingError.BadFates → HasBadFates options.now.rounds }
+    ensures fates_refused { HasBadFates options.now.rounds → result ≡ Err ReplayingError.BadFates }
     ensures fates_first { HasBadFates options.now.rounds → Keeps (R.remaining reader.old) (R.remaining reader.new) }
 
     // What it is refused for, and what it did until then. Memory may be wanted for good fates too.
-    ensures ends { IfErr result (EndsBy (MayWantMemory options.now (R.remaining reader.old) (R.remaining reader.new)) MakesNone
-        (R.remaining reader.old) (R.remaining reader.new) capture.old capture.new (W.contents writer.old) (W.contents writer.new)) }
-
-    ensures faults { IfErr result IsOfReplay }
+    ensures ends { IfErr result (λ e. EndsBy (MayWantMemory options.now (R.remaining reader.old) (R.remaining reader.new)) MakesNone
+        (R.remaining reader.old) (R.remaining reader.new) capture.old capture.new (W.contents writer.old) (W.contents writer.new)
+        (fault_of_replay e)) }
 {
     let air = match &options.rounds {
         Some(rounds) => Some(air_of(alloc, rounds)?),
@@ -159,21 +251,17 @@ pub fn run_replay<R: Read, W: Write, C: Write, E: Eprint>(
 }
 
 /// The rounds with their fates.
-pub(crate) fn air_of(alloc: Global, rounds: &Rounds<'_>) -> Result<Air, Fault>
+pub(crate) fn air_of(alloc: Global, rounds: &Rounds<'_>) -> Result<Air, FatesError>
     ensures rounds { IfOk result (λ air. air.rounds ≡ rounds.now.rounds) }
     ensures fates { IfOk result (λ air. SpellsFates rounds.now.fates.now air.fates.items) }
-    ensures bad_fates { result ≡ Err Fault.BadFates → ¬ SpellsSome rounds.now.fates.now }
-    ensures memory { result ≡ Err Fault.OutOfMemory → SpellsSome rounds.now.fates.now }
-    ensures faults { IfErr result (λ f. (f ≡ Fault.BadFates) ⊎ (f ≡ Fault.OutOfMemory)) }
+    ensures bad_fates { result ≡ Err FatesError.BadFates → ¬ SpellsSome rounds.now.fates.now }
+    ensures memory { result ≡ Err FatesError.OutOfMemory → SpellsSome rounds.now.fates.now }
 {
-    match read_fates(alloc, rounds.fates.as_bytes()) {
-        Ok(fates) => Ok(Air {
-            rounds: rounds.rounds,
-            fates,
-        }),
-        Err(FatesError::BadFates) => Err(Fault::BadFates),
-        Err(FatesError::OutOfMemory) => Err(Fault::OutOfMemory),
-    }
+    let fates = read_fates(alloc, rounds.fates.as_bytes())?;
+    Ok(Air {
+        rounds: rounds.rounds,
+        fates,
+    })
 }
 
 /// Runs the script that the reader has, and writes the capture and the report of it.
@@ -185,21 +273,23 @@ fn replay_from<R: Read, W: Write, C: Write, E: Eprint>(
     terminal: Option<&E>,
     air: &Option<Air>,
     style: Style,
-) -> Result<Ended, Fault>
+) -> Result<Ended, ReplayingError>
     requires fates { IfSome air.now (λ air. IsFates air.fates.items) }
     ensures ok { IfOk result (λ ended. WritesRun (rounds_in air.now) style ended (R.remaining reader.old) (R.remaining reader.new)
         (option_map C.contents capture.old) (option_map C.contents capture.new) (W.contents writer.old) (W.contents writer.new)) }
-    ensures not_fates { result ≢ Err Fault.BadFates }
-    ensures ends { IfErr result (EndsBy (MayWantFor (R.remaining reader.old) (R.remaining reader.new)) MakesNone
-        (R.remaining reader.old) (R.remaining reader.new) capture.old capture.new (W.contents writer.old) (W.contents writer.new)) }
-    ensures faults { IfErr result IsOfReplay }
+    ensures not_fates { result ≢ Err ReplayingError.BadFates }
+    ensures ends { IfErr result (λ e. EndsBy (MayWantFor (R.remaining reader.old) (R.remaining reader.new)) MakesNone
+        (R.remaining reader.old) (R.remaining reader.new) capture.old capture.new (W.contents writer.old) (W.contents writer.new)
+        (fault_of_replay e)) }
 {
     let mut reads = Reads::none();
     let input = read_input(alloc, reader, &mut reads)?;
     let told = replay(alloc, &input, terminal, air, style)?;
     write_capture(alloc, capture, told.world.sent())?;
-    write_text(writer, told.text.as_str())?;
-    Ok(told.ended)
+    match write_text(writer, told.text.as_str()) {
+        Ok(()) => Ok(told.ended),
+        Err(_) => Err(ReplayingError::Output),
+    }
 }
 
 /// What is written of a script.
@@ -209,17 +299,32 @@ fn replay<E: Eprint>(
     terminal: Option<&E>,
     air: &Option<Air>,
     style: Style,
-) -> Result<Told, Fault>
+) -> Result<Told, ReplayingError>
     requires fates { IfSome air.now (λ air. IsFates air.fates.items) }
     ensures ok { IfOk result (λ told. Tells (rounds_in air.now) style input.now told.ended told.world (string_bytes told.text)) }
-    ensures bad_line { (number : ℕ) → result ≡ Err (Fault.BadLine number) → IsBadLine input.now number }
-    ensures bad_setup { result ≡ Err Fault.BadSetup → MakesNone input.now }
-    ensures memory { result ≡ Err Fault.OutOfMemory → MayTakeMemory input.now }
-    ensures faults { IfErr result (λ f. (f ≡ Fault.OutOfMemory) ⊎ ((f ≡ Fault.BadSetup) ⊎ ((number : ℕ) × (f ≡ Fault.BadLine number)))) }
+    ensures bad_line { (number : ℕ) → result ≡ Err (ReplayingError.BadLine number) → IsBadLine input.now number }
+    ensures bad_setup { result ≡ Err ReplayingError.BadSetup → MakesNone input.now }
+    ensures memory { result ≡ Err ReplayingError.OutOfMemory → MayTakeMemory input.now }
+    ensures faults { IfErr result (λ e. (e ≡ ReplayingError.OutOfMemory) ⊎ ((e ≡ ReplayingError.BadSetup)
+        ⊎ ((number : ℕ) × (e ≡ ReplayingError.BadLine number)))) }
 {
     let Script { setup, events } = script_of(alloc, input)?;
     let events = with_rounds(alloc, &setup, events, terminal, air)?;
     tell_run(alloc, &setup, &events, style)
+}
+
+/// The script that the input spells.
+fn script_of(alloc: Global, input: &[u8]) -> Result<Script, ReplayingError>
+    ensures ok { IfOk result (λ script. SpellsScript input.now (script_of script.setup script.events.items)) }
+    ensures bad_line { (number : ℕ) → result ≡ Err (ReplayingError.BadLine number) → IsBadLine input.now number }
+    ensures memory { result ≡ Err ReplayingError.OutOfMemory → BeginsScript input.now }
+    ensures faults { IfErr result (λ e. (e ≡ ReplayingError.OutOfMemory) ⊎ ((number : ℕ) × (e ≡ ReplayingError.BadLine number))) }
+{
+    match read_script(alloc, input) {
+        Ok(script) => Ok(script),
+        Err(ScriptError::BadLine(number)) => Err(ReplayingError::BadLine(number)),
+        Err(ScriptError::OutOfMemory) => Err(ReplayingError::OutOfMemory),
+    }
 }
 
 /// The events of a script, and after them those of the rounds. Where a given event is refused no round is made: the run is refused there.
@@ -229,10 +334,9 @@ fn with_rounds<E: Eprint>(
     events: Vec<Event>,
     terminal: Option<&E>,
     air: &Option<Air>,
-) -> Result<Vec<Event>, Fault>
+) -> Result<Vec<Event>, AllocError>
     requires fates { IfSome air.now (λ air. IsFates air.fates.items) }
     ensures ok { IfOk result (λ all. GoesOn (rounds_in air.now) setup.now (events_of events.items) (events_of all.items)) }
-    ensures err { IfErr result (λ f. f ≡ Fault.OutOfMemory) }
     ensures memory { OnErr result (IsSetup setup.now) }
 {
     let Some(air) = air else {
@@ -244,7 +348,7 @@ fn with_rounds<E: Eprint>(
     let watch = RoundsWatch::new(terminal, setup, air.rounds);
     match schedule_watched(alloc, setup, &events, air.rounds, &fates, &watch) {
         Ok(all) => Ok(all),
-        Err(error) if wants_memory(&error) => Err(Fault::OutOfMemory),
+        Err(error) if wants_memory(&error) => Err(AllocError),
         Err(_) => Ok(events),
     }
 }
@@ -264,11 +368,16 @@ fn wants_memory(error: &RunError) -> bool
 }
 
 /// What is written of a run over these events.
-fn tell_run(alloc: Global, setup: &Setup, events: &[Event], style: Style) -> Result<Told, Fault>
+fn tell_run(
+    alloc: Global,
+    setup: &Setup,
+    events: &[Event],
+    style: Style,
+) -> Result<Told, ReplayingError>
     ensures ok { IfOk result (λ told. TellsRun style setup.now events.now told.ended told.world (string_bytes told.text)) }
-    ensures bad_setup { result ≡ Err Fault.BadSetup → ¬ IsSetup setup.now }
-    ensures memory { result ≡ Err Fault.OutOfMemory → IsSetup setup.now }
-    ensures faults { IfErr result (λ f. (f ≡ Fault.OutOfMemory) ⊎ (f ≡ Fault.BadSetup)) }
+    ensures bad_setup { result ≡ Err ReplayingError.BadSetup → ¬ IsSetup setup.now }
+    ensures memory { result ≡ Err ReplayingError.OutOfMemory → IsSetup setup.now }
+    ensures faults { IfErr result (λ e. (e ≡ ReplayingError.OutOfMemory) ⊎ (e ≡ ReplayingError.BadSetup)) }
 {
     match run(alloc, setup, events) {
         Ok(world) => Ok(Told {
@@ -307,22 +416,22 @@ fn tell_refusal(
     events: &[Event],
     error: RunError,
     style: Style,
-) -> Result<Told, Fault>
+) -> Result<Told, ReplayingError>
     requires stopped { IsStopped setup.now events.now error }
     requires made { IsOfWorld setup.now error }
     ensures ok { IfOk result (λ told. (told.ended ≡ Ended.Refused)
         × TellsRefusal style setup.now events.now error told.world (string_bytes told.text)) }
-    ensures bad_setup { result ≡ Err Fault.BadSetup → error ≡ RunError.Setup SetupError.BadSetup }
-    ensures memory { result ≡ Err Fault.OutOfMemory → error ≢ RunError.Setup SetupError.BadSetup }
-    ensures faults { IfErr result (λ f. (f ≡ Fault.OutOfMemory) ⊎ (f ≡ Fault.BadSetup)) }
+    ensures bad_setup { result ≡ Err ReplayingError.BadSetup → error ≡ RunError.Setup SetupError.BadSetup }
+    ensures memory { result ≡ Err ReplayingError.OutOfMemory → error ≢ RunError.Setup SetupError.BadSetup }
+    ensures faults { IfErr result (λ e. (e ≡ ReplayingError.OutOfMemory) ⊎ (e ≡ ReplayingError.BadSetup)) }
 {
     match error {
-        RunError::Setup(SetupError::BadSetup) => Err(Fault::BadSetup),
-        RunError::Setup(SetupError::OutOfMemory) => Err(Fault::OutOfMemory),
+        RunError::Setup(SetupError::BadSetup) => Err(ReplayingError::BadSetup),
+        RunError::Setup(SetupError::OutOfMemory) => Err(ReplayingError::OutOfMemory),
         RunError::Event {
             cause: StepError::OutOfMemory,
             ..
-        } => Err(Fault::OutOfMemory),
+        } => Err(ReplayingError::OutOfMemory),
         RunError::Event { at, world, cause } => {
             let refusal = Some(Refusal { at, cause });
             Ok(Told {

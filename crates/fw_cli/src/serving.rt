@@ -6,11 +6,12 @@ ghost use Rattle.std.specs.Io.KnownBytes.{Keeps};
 ghost use Rattle.fw_meter.specs.Handling.{reply_bytes};
 ghost use Rattle.fw_cli.specs.Session.{AnswersLineOver, BeginsWell, Session, line_for};
 ghost use Rattle.fw_faults.specs.Reading.{Gives, ReadsUntil, max_input};
-ghost use Rattle.fw_cli.specs.Faults.{ComesBeforeInput, ComesBeforeOutput, IsOfAnswer};
-ghost use Rattle.fw_cli.specs.Answering.{WritesSession};
+ghost use Rattle.fw_cli.specs.Faults.{ComesBeforeInput, ComesBeforeOutput};
+ghost use Rattle.fw_cli.specs.Answering.{WritesSession, fault_of_answer};
 
-use fw_faults::{Fault, Reads, read_input};
-use fw_meter::MeterCore;
+use crate::answer::AnswerError;
+use fw_faults::{InputError, Reads, read_input};
+use fw_meter::{MeterCore, OutOfMemory};
 use fw_store::ImageStore;
 use fw_text::first_line;
 use fw_text::hexadecimal::{put_bytes, put_digits};
@@ -30,29 +31,36 @@ pub(crate) fn serve<S: ImageStore + Drop, R: Read, W: Write>(
     meter: MeterCore<S>,
     reader: &mut R,
     writer: &mut W,
-) -> Result<(), Fault>
+) -> Result<(), AnswerError>
     ensures ok { OnOk result (WritesSession AnswersLineOver meter None (R.remaining reader.old) (R.remaining reader.new)
         (W.contents writer.old) (W.contents writer.new)) }
-    ensures bad_line { (number : ℕ) → result ≡ Err (Fault.BadLine number)
+    ensures bad_line { (number : ℕ) → result ≡ Err (AnswerError.BadLine number)
         → WritesSession AnswersLineOver meter (Some number) (R.remaining reader.old) (R.remaining reader.new)
         (W.contents writer.old) (W.contents writer.new) }
-    ensures later { IfErr result (λ f. ComesBeforeInput f → ⊥) }
-    ensures reading { IfErr result (λ f. ReadsUntil f (R.remaining reader.old) (R.remaining reader.new)) }
-    ensures memory { result ≡ Err Fault.OutOfMemory
+    ensures later { IfErr result (λ e. ComesBeforeInput (fault_of_answer e) → ⊥) }
+    ensures reading { IfErr result (λ e. ReadsUntil (fault_of_answer e) (R.remaining reader.old) (R.remaining reader.new)) }
+    ensures memory { result ≡ Err AnswerError.OutOfMemory
         → Gives (R.remaining reader.old) (R.remaining reader.new) (λ count. (1 ≤ count) × (count ≤ max_input)) }
-    ensures silent { IfErr result (λ f. ComesBeforeOutput f → Keeps (W.contents writer.old) (W.contents writer.new)) }
-    ensures faults { IfErr result IsOfAnswer }
+    ensures silent { IfErr result (λ e. ComesBeforeOutput (fault_of_answer e) → Keeps (W.contents writer.old) (W.contents writer.new)) }
 {
     let mut reads = Reads::none();
-    let input = read_input(alloc, reader, &mut reads)?;
-    let transcript = answer_lines(alloc, meter, &input)?;
+    let input = match read_input(alloc, reader, &mut reads) {
+        Ok(input) => input,
+        Err(InputError::Input) => return Err(AnswerError::Input),
+        Err(InputError::TooMuchInput) => return Err(AnswerError::TooMuchInput),
+        Err(InputError::OutOfMemory) => return Err(AnswerError::OutOfMemory),
+    };
+    let transcript = match answer_lines(alloc, meter, &input) {
+        Ok(transcript) => transcript,
+        Err(_) => return Err(AnswerError::OutOfMemory),
+    };
     writer
         .write_all(&transcript.text)
-        .map_err(|_| Fault::Output)?;
-    writer.flush().map_err(|_| Fault::Output)?;
+        .map_err(|_| AnswerError::Output)?;
+    writer.flush().map_err(|_| AnswerError::Output)?;
     match transcript.bad_line {
         None => Ok(()),
-        Some(number) => Err(Fault::BadLine(number)),
+        Some(number) => Err(AnswerError::BadLine(number)),
     }
 }
 
@@ -61,10 +69,9 @@ fn answer_lines<S: ImageStore + Drop>(
     alloc: Global,
     mut meter: MeterCore<S>,
     input: &[u8],
-) -> Result<Transcript, Fault>
+) -> Result<Transcript, OutOfMemory>
     requires size { length input.now ≤ max_input }
     ensures ok { IfOk result (λ t. Session AnswersLineOver meter input.now t.text.items t.bad_line) }
-    ensures err { IfErr result (λ f. f ≡ Fault.OutOfMemory) }
     // Nothing is answered where the first line is a bad one.
     ensures memory { OnErr result (BeginsWell input.now) }
 {

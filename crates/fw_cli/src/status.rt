@@ -1,24 +1,26 @@
 //! The command `status`: how far the rows and the campaigns of a book are, also while a head end has it.
 
-ghost use Rattle.std.specs.Prelude.{◌≡◌, ◌≢◌, ℕ, List, IfErr, IfOk, OnOk};
+ghost use Rattle.std.specs.Prelude.{◌≡◌, ◌≢◌, ℕ, List, None, IfErr, IfOk, OnOk};
 ghost use Rattle.std.specs.Io.KnownBytes.{Appends, Keeps};
 ghost use Rattle.fw_journal.specs.Book.{Drops};
 ghost use Rattle.fw_rows.specs.Noted.{Noted};
 ghost use Rattle.fw_status.specs.Forms.{Tells};
 ghost use Rattle.fw_status.specs.declared.campaign.CampaignStatus.{CampaignStatus};
-ghost use Rattle.fw_cli.specs.Heads.{HasStatus, IsOfReport, IsOfStatus, SaysWhy};
+ghost use Rattle.fw_cli.specs.Heads.{HasStatus, SaysWhy, fault_of_status, status_error};
+ghost use Rattle.fw_cli.specs.declared.status.StatusError.TheVariants.{OutOfMemory};
 
 use fw_disk::{Because, Cause, Name};
 use fw_faults::{Fault, write_text};
 use fw_host::untaken_line;
-use fw_kept::read_kept;
+use fw_kept::{OpenError, read_kept};
 use fw_rows::{NotedRow, push_noted};
 use fw_status::{CampaignStatus, Listing, StatusForm, append_status, push_campaigns};
-use std::alloc::Global;
+use std::alloc::{AllocError, Global};
 use std::fs::File;
-use std::io;
 use std::io::{ErrorKind, Read, Write};
 use std::rt::Files;
+use std::{fmt, io};
+use thiserror::Error;
 
 /// The options of the command.
 #[derive(Clone, Copy)]
@@ -29,6 +31,70 @@ pub struct StatusOptions<'a> {
     pub report: StatusForm,
     /// What it lists.
     pub listing: Listing,
+}
+
+/// Why the command ended early. It prints its name, and of a bad book the offset, or the index of the record.
+#[derive(Clone, Copy, Debug, Error)]
+pub enum StatusError {
+    /// No file is there.
+    NoBook,
+    /// The file can't be read.
+    BookFault,
+    /// The bytes of the file from this offset on are no book's.
+    BadBook(u64),
+    /// The record with this index, counted from 0, has no place in the book.
+    BadRecord(usize),
+    /// The writer failed.
+    Output,
+    /// Memory was refused.
+    OutOfMemory,
+}
+
+impl fmt::Display for StatusError {
+    fn fmt<W: fmt::Write>(&self, f: &mut fmt::Formatter<W>) -> fmt::Result {
+        match self {
+            StatusError::BadBook(offset) => write!(f, "BadBook {offset}"),
+            StatusError::BadRecord(index) => write!(f, "BadRecord {index}"),
+            other => fmt::Debug::fmt(other, f),
+        }
+    }
+}
+
+impl From<AllocError> for StatusError {
+    ghost from_gives = { λ _ e. e ≡ OutOfMemory };
+
+    fn from(_error: AllocError) -> StatusError {
+        StatusError::OutOfMemory
+    }
+}
+
+impl From<OpenError> for StatusError {
+    ghost from_gives = { λ error e. e ≡ status_error error };
+
+    fn from(error: OpenError) -> StatusError {
+        match error {
+            OpenError::BadBook { offset } => StatusError::BadBook(offset),
+            OpenError::BadRecord { index } => StatusError::BadRecord(index),
+            // Bytes that are read are any head end's, and no device fails.
+            OpenError::ForeignHead | OpenError::BookFault => StatusError::BookFault,
+            OpenError::OutOfMemory => StatusError::OutOfMemory,
+        }
+    }
+}
+
+impl From<StatusError> for Fault {
+    ghost from_gives = { λ error fault. fault ≡ fault_of_status error };
+
+    fn from(error: StatusError) -> Fault {
+        match error {
+            StatusError::NoBook => Fault::NoBook,
+            StatusError::BookFault => Fault::BookFault,
+            StatusError::BadBook(offset) => Fault::BadBook(offset),
+            StatusError::BadRecord(index) => Fault::BadRecord(index),
+            StatusError::Output => Fault::Output,
+            StatusError::OutOfMemory => Fault::OutOfMemory,
+        }
+    }
 }
 
 /// What a book tells, and how many whole records stand behind its shut gate.
@@ -54,19 +120,18 @@ pub fn run_status<F: Files<File = File> + Eprint, W: Write>(
     alloc: Global,
     writer: &mut W,
     options: &StatusOptions<'_>,
-) -> Result<(), Because<Fault>>
+) -> Result<(), Because<StatusError>>
     // Of the file's contents nothing is known here, so the bytes are some. The report is of the book that they hold.
     ensures ok { OnOk result ((bytes : List ℕ) × (campaigns : List CampaignStatus) × (rows : List Noted) × HasStatus bytes campaigns rows
         × (text : List ℕ) × Tells options.now.report options.now.listing campaigns rows text
         × Appends (W.contents writer.old) (W.contents writer.new) text) }
-    ensures silent { IfErr result (λ b. b.error ≢ Fault.Output → Keeps (W.contents writer.old) (W.contents writer.new)) }
+    ensures silent { IfErr result (λ b. b.error ≢ StatusError.Output → Keeps (W.contents writer.old) (W.contents writer.new)) }
     ensures reason { IfErr result (λ b. SaysWhy b.error b.reason) }
-    ensures faults { IfErr result (λ b. IsOfStatus b.error) }
 {
     let bytes = bytes_of_book(rt, alloc, options.book)?;
     match tell_status(rt, alloc, writer, &bytes, options.report, options.listing) {
         Ok(()) => Ok(()),
-        Err(fault) => Err(Because::from(fault)),
+        Err(error) => Err(Because::from(error)),
     }
 }
 
@@ -78,12 +143,12 @@ fn tell_status<F: Eprint, W: Write>(
     bytes: &[u8],
     report: StatusForm,
     listing: Listing,
-) -> Result<(), Fault>
+) -> Result<(), StatusError>
     ensures ok { OnOk result ((campaigns : List CampaignStatus) × (rows : List Noted) × HasStatus bytes.now campaigns rows
         × (text : List ℕ) × Tells report listing campaigns rows text
         × Appends (W.contents writer.old) (W.contents writer.new) text) }
-    ensures silent { IfErr result (λ f. f ≢ Fault.Output → Keeps (W.contents writer.old) (W.contents writer.new)) }
-    ensures faults { IfErr result IsOfReport }
+    ensures silent { IfErr result (λ e. e ≢ StatusError.Output → Keeps (W.contents writer.old) (W.contents writer.new)) }
+    ensures reason { IfErr result (λ e. SaysWhy e None) }
 {
     let Reading {
         campaigns,
@@ -95,7 +160,7 @@ fn tell_status<F: Eprint, W: Write>(
     }
     let mut text = String::new(alloc);
     append_status(alloc, &mut text, report, listing, &campaigns, &rows)?;
-    write_text(writer, text.as_str())
+    write_text(writer, text.as_str()).map_err(|_| StatusError::Output)
 }
 
 /// Tells standard error of records that the book lacks. A line that can't be written is lost.
@@ -111,9 +176,8 @@ pub(crate) fn bytes_of_book<F: Files<File = File>>(
     rt: &F,
     alloc: Global,
     path: &str,
-) -> Result<Vec<u8>, Because<Fault>>
-    ensures reason { IfErr result (λ b. SaysWhy b.error b.reason) }
-    ensures faults { IfErr result (λ b. IsOfStatus b.error) }
+) -> Result<Vec<u8>, Because<StatusError>>
+    ensures { IfErr result (λ b. SaysWhy b.error b.reason) }
 {
     let mut file = match File::open(rt, path) {
         Ok(file) => file,
@@ -127,24 +191,23 @@ pub(crate) fn bytes_of_book<F: Files<File = File>>(
 }
 
 /// Why the file of a book can't be opened or read.
-fn refused(error: io::Error) -> Because<Fault>
-    ensures reason { SaysWhy result.error result.reason }
-    ensures faults { IsOfStatus result.error }
+fn refused(error: io::Error) -> Because<StatusError>
+    ensures { SaysWhy result.error result.reason }
 {
     if error.kind() == ErrorKind::OutOfMemory {
-        return Because::from(Fault::OutOfMemory);
+        return Because::from(StatusError::OutOfMemory);
     }
     match Cause::from(error) {
-        Cause::Missing => Because::of(Fault::NoBook, Cause::Missing.at(Name::Main)),
-        cause => Because::of(Fault::BookFault, cause.at(Name::Main)),
+        Cause::Missing => Because::of(StatusError::NoBook, Cause::Missing.at(Name::Main)),
+        cause => Because::of(StatusError::BookFault, cause.at(Name::Main)),
     }
 }
 
 /// What the book tells that these bytes hold.
-fn reading_of(alloc: Global, bytes: &[u8]) -> Result<Reading, Fault>
+fn reading_of(alloc: Global, bytes: &[u8]) -> Result<Reading, StatusError>
     ensures status { IfOk result (λ r. HasStatus bytes.now r.campaigns.items r.rows.items) }
     ensures untaken { IfOk result (λ r. (rest : List ℕ) × Drops bytes.now rest r.untaken) }
-    ensures faults { IfErr result IsOfReport }
+    ensures reason { IfErr result (λ e. SaysWhy e None) }
 {
     let mut campaigns = Vec::new(alloc);
     let mut rows = Vec::new(alloc);

@@ -14,7 +14,7 @@ use fw_disk::Because;
 use fw_faults::Fault;
 use fw_host::{NewStore, found_meter};
 use fw_meter::MeterCore;
-use fw_store::FileStore;
+use fw_store::{FileStore, SetupError};
 use std::alloc::Global;
 use std::fs::File;
 use std::io::{Read, Write};
@@ -78,7 +78,10 @@ pub fn run_answer_stored<F: Files<File = File>, R: Read, W: Write>(
     let meter = set_up(rt, alloc, options)?;
     match serve(alloc, meter, reader, writer) {
         Ok(()) => Ok(()),
-        Err(fault) => Err(Because::from(fault)),
+        Err(error) => {
+            let fault = Fault::from(error);
+            Err(Because::from(fault))
+        }
     }
 }
 
@@ -114,19 +117,21 @@ fn made<F: Files<File = File>>(
     ensures described { IfErr result (λ b. b.error ≢ Fault.BadSetup → DescribesOne options.now.fresh) }
     ensures faults { IfErr result (λ b. ComesBeforeInput b.error ⊎ (b.error ≡ Fault.OutOfMemory)) }
 {
-    let new = new_store(alloc, &options.fresh)?;
-    new.meter(rt, options.file)
+    match new_store(alloc, &options.fresh) {
+        Ok(new) => new.meter(rt, options.file),
+        Err(SetupError::BadSetup) => Err(Because::from(Fault::BadSetup)),
+        Err(SetupError::OutOfMemory) => Err(Because::from(Fault::OutOfMemory)),
+    }
 }
 
 /// What a new store is made with. Options that describe no meter are refused before memory is taken.
-fn new_store(alloc: Global, options: &AnswerOptions<'_>) -> Result<NewStore, Fault>
+fn new_store(alloc: Global, options: &AnswerOptions<'_>) -> Result<NewStore, SetupError>
     ensures described { OnOk result (DescribesOne options.now) }
-    ensures bad_setup { result ≡ Err Fault.BadSetup → DescribesNone options.now }
-    ensures memory { result ≡ Err Fault.OutOfMemory → DescribesOne options.now }
-    ensures faults { IfErr result (λ f. (f ≡ Fault.BadSetup) ⊎ (f ≡ Fault.OutOfMemory)) }
+    ensures bad_setup { result ≡ Err SetupError.BadSetup → DescribesNone options.now }
+    ensures memory { result ≡ Err SetupError.OutOfMemory → DescribesOne options.now }
 {
     if !describes_one(options) {
-        return Err(Fault::BadSetup);
+        return Err(SetupError::BadSetup);
     }
     let MeterSetup {
         block_size,
@@ -135,6 +140,6 @@ fn new_store(alloc: Global, options: &AnswerOptions<'_>) -> Result<NewStore, Fau
     } = setup_of(alloc, options)?;
     match NewStore::of(block_size, capacity, factory) {
         Some(new) => Ok(new),
-        None => Err(Fault::BadSetup),
+        None => Err(SetupError::BadSetup),
     }
 }

@@ -5,17 +5,11 @@ ghost use Rattle.std.specs.Io.KnownBytes.{Appends, Keeps};
 ghost use Rattle.fw_inventory.specs.Inventories.{inventory_in};
 ghost use Rattle.fw_rollout.specs.Daemon.{IsList};
 ghost use Rattle.fw_survey.specs.Survey.{IsSurvey, rows_of};
-ghost use Rattle.fw_cli.specs.Surveying.{
-  AreOfList,
-  HasEnded,
-  IsCauseOfSurvey,
-  IsImage,
-  IsOfferOf,
-  IsOfSurvey,
-  IsOfSurveySetup,
-  TellsSurvey,
-};
+ghost use Rattle.fw_cli.specs.Private.{fault_of_list_file};
+ghost use Rattle.fw_cli.specs.Surveying.{AreOfList, HasEnded, IsCauseOfSurvey, IsImage, IsOfferOf, TellsSurvey, fault_of_survey};
+ghost use Rattle.fw_cli.specs.declared.survey.SurveyError.TheVariants as refused;
 
+use crate::error::{FileError, ListFileError};
 use crate::head::{bytes_of_file, list_of_file};
 use crate::input_cause::{InputCause, cause_in_file};
 use fw_book::MAX_IMAGE_SIZE;
@@ -25,13 +19,15 @@ use fw_names::digest_of;
 use fw_port::{Closed, UdpPort};
 use fw_rollout::Listed;
 use fw_survey::{Row, Stop, Survey, Timer, Timing, survey_meters};
-use std::alloc::Global;
+use std::alloc::{AllocError, Global};
+use std::fmt;
 use std::fs::File;
 use std::io::Write;
 use std::net::{Net, SocketAddr};
 use std::rt::{Clock, Files};
 use std::sync::Wait;
 use std::time::Instant;
+use thiserror::Error;
 
 /// How long a receive waits, in milliseconds. It is the least time in which a silence is seen.
 const WAIT_LIMIT: u64 = 5;
@@ -60,6 +56,73 @@ pub struct SurveyOptions<'a> {
     pub report: InventoryForm,
 }
 
+/// Why the command ended early. It prints its name, and of a bad line the number too.
+#[derive(Clone, Copy, Debug, Error)]
+pub enum SurveyError {
+    /// The list of meters can't be read.
+    ListFault,
+    /// The line of this number, counted from 1, is none of a list.
+    BadList(u64),
+    /// The image can't be read.
+    ImageFault,
+    /// The image has no byte.
+    EmptyImage,
+    /// The image has more than 16,777,216 bytes.
+    ImageTooLong,
+    /// The address can't be received at. Or the socket failed 1,000 times in a row, or the system had no time.
+    Socket,
+    /// The writer failed.
+    Output,
+    /// Memory was refused.
+    OutOfMemory,
+}
+
+impl fmt::Display for SurveyError {
+    fn fmt<W: fmt::Write>(&self, f: &mut fmt::Formatter<W>) -> fmt::Result {
+        match self {
+            SurveyError::BadList(number) => write!(f, "BadList {number}"),
+            other => fmt::Debug::fmt(other, f),
+        }
+    }
+}
+
+impl From<AllocError> for SurveyError {
+    ghost from_gives = { λ _ e. e ≡ refused.OutOfMemory };
+
+    fn from(_error: AllocError) -> SurveyError {
+        SurveyError::OutOfMemory
+    }
+}
+
+impl From<ListFileError> for SurveyError {
+    ghost from_gives = { λ error e. fault_of_survey e ≡ fault_of_list_file error };
+
+    fn from(error: ListFileError) -> SurveyError {
+        match error {
+            ListFileError::ListFault => SurveyError::ListFault,
+            ListFileError::BadList(number) => SurveyError::BadList(number),
+            ListFileError::OutOfMemory => SurveyError::OutOfMemory,
+        }
+    }
+}
+
+impl From<SurveyError> for Fault {
+    ghost from_gives = { λ error fault. fault ≡ fault_of_survey error };
+
+    fn from(error: SurveyError) -> Fault {
+        match error {
+            SurveyError::ListFault => Fault::ListFault,
+            SurveyError::BadList(number) => Fault::BadList(number),
+            SurveyError::ImageFault => Fault::ImageFault,
+            SurveyError::EmptyImage => Fault::EmptyImage,
+            SurveyError::ImageTooLong => Fault::ImageTooLong,
+            SurveyError::Socket => Fault::Socket,
+            SurveyError::Output => Fault::Output,
+            SurveyError::OutOfMemory => Fault::OutOfMemory,
+        }
+    }
+}
+
 /// Asks each meter of the list what it runs, its block size, whether transfer is enabled, and its status, by GET alone, and writes what they
 /// answered. A meter that doesn't answer is told as silent. No meter is changed.
 ///
@@ -75,11 +138,10 @@ pub fn run_survey<R: Files<File = File> + Clock + Net + Wait, W: Write>(
     alloc: Global,
     writer: &mut W,
     options: &SurveyOptions<'_>,
-) -> Result<(), Fault>
+) -> Result<(), SurveyError>
     // Of the files nothing is known here, so the list and the image are some. Of what a network brings nothing is known either.
     ensures told { OnOk result (TellsSurvey options.now (W.contents writer.old) (W.contents writer.new)) }
-    ensures silent { IfErr result (λ f. f ≢ Fault.Output → Keeps (W.contents writer.old) (W.contents writer.new)) }
-    ensures faults { IfErr result IsOfSurvey }
+    ensures silent { IfErr result (λ e. e ≢ SurveyError.Output → Keeps (W.contents writer.old) (W.contents writer.new)) }
 {
     let list = list_of_file(rt, alloc, options.meters, options.listen)?;
     let offer = offer_of(rt, alloc, options.offer)?;
@@ -88,17 +150,17 @@ pub fn run_survey<R: Files<File = File> + Clock + Net + Wait, W: Write>(
     tell(alloc, writer, options.report, survey.rows(), offer)
 }
 
-/// Why a survey with these options ended by this fault, if that is to be seen in the list. It is read as it is now.
+/// Why a survey with these options ended so, if that is to be seen in the list. It is read as it is now.
 pub fn survey_cause<F: Files<File = File> + Net>(
     rt: &F,
     alloc: Global,
     options: &SurveyOptions<'_>,
-    fault: Fault,
+    error: SurveyError,
 ) -> Option<InputCause>
-    ensures { IfSome result (IsCauseOfSurvey options.now.listen fault) }
+    ensures { IfSome result (IsCauseOfSurvey options.now.listen error) }
 {
-    match fault {
-        Fault::BadList(line) => {
+    match error {
+        SurveyError::BadList(line) => {
             let cause = cause_in_file(rt, alloc, options.meters, options.listen, line)?;
             Some(InputCause::Line(cause))
         }
@@ -113,14 +175,13 @@ fn tell<W: Write>(
     report: InventoryForm,
     rows: &[Row],
     offer: Option<Offer>,
-) -> Result<(), Fault>
+) -> Result<(), SurveyError>
     ensures written { OnOk result (Appends (W.contents writer.old) (W.contents writer.new) (inventory_in report rows.now offer)) }
-    ensures silent { IfErr result (λ f. f ≢ Fault.Output → Keeps (W.contents writer.old) (W.contents writer.new)) }
-    ensures faults { IfErr result IsOfSurvey }
+    ensures silent { IfErr result (λ e. e ≢ SurveyError.Output → Keeps (W.contents writer.old) (W.contents writer.new)) }
 {
     let mut text = String::new(alloc);
     append_inventory(alloc, &mut text, report, rows, offer)?;
-    write_text(writer, text.as_str())
+    write_text(writer, text.as_str()).map_err(|_| SurveyError::Output)
 }
 
 /// The image that is offered, as its file has it.
@@ -128,9 +189,8 @@ fn offer_of<F: Files<File = File>>(
     rt: &F,
     alloc: Global,
     offer: Option<SurveyOffer<'_>>,
-) -> Result<Option<Offer>, Fault>
+) -> Result<Option<Offer>, SurveyError>
     ensures offer { IfOk result (IsOfferOf offer.entry) }
-    ensures faults { IfErr result IsOfSurveySetup }
 {
     let Some(offer) = offer else {
         return Ok(None);
@@ -144,33 +204,40 @@ fn offer_of<F: Files<File = File>>(
 }
 
 /// The bytes of a file, if they are an image that a campaign may offer.
-fn image_of<F: Files<File = File>>(rt: &F, alloc: Global, path: &str) -> Result<Vec<u8>, Fault>
+fn image_of<F: Files<File = File>>(
+    rt: &F,
+    alloc: Global,
+    path: &str,
+) -> Result<Vec<u8>, SurveyError>
     ensures image { IfOk result (λ image. IsImage image.items) }
-    ensures faults { IfErr result IsOfSurveySetup }
 {
-    let image = bytes_of_file(rt, alloc, path, Fault::ImageFault, Fault::ImageTooLong)?;
+    let image = match bytes_of_file(rt, alloc, path) {
+        Ok(image) => image,
+        Err(FileError::Unread) => return Err(SurveyError::ImageFault),
+        Err(FileError::TooLong) => return Err(SurveyError::ImageTooLong),
+        Err(FileError::OutOfMemory) => return Err(SurveyError::OutOfMemory),
+    };
     if image.is_empty() {
-        return Err(Fault::EmptyImage);
+        return Err(SurveyError::EmptyImage);
     }
     if image.len() > MAX_IMAGE_SIZE {
-        return Err(Fault::ImageTooLong);
+        return Err(SurveyError::ImageTooLong);
     }
     Ok(image)
 }
 
 /// A survey of the meters of a list.
-fn survey_of(alloc: Global, list: &[Listed], timing: Timing) -> Result<Survey, Fault>
+fn survey_of(alloc: Global, list: &[Listed], timing: Timing) -> Result<Survey, AllocError>
     requires { IsList list.now }
     ensures rows { IfOk result (λ survey. AreOfList list.now (rows_of survey)) }
     ensures timing { IfOk result (λ survey. survey.timing ≡ timing) }
     ensures survey { IfOk result IsSurvey }
-    ensures faults { IfErr result (λ f. f ≡ Fault.OutOfMemory) }
 {
     let mut survey = Survey::new(alloc, timing);
     for at in list {
         // Each address of a list stands once, so it is added.
         let Ok(_) = survey.add(at.meter, at.address) else {
-            return Err(Fault::OutOfMemory);
+            return Err(AllocError);
         };
     }
     Ok(survey)
@@ -182,19 +249,18 @@ fn ask_all<R: Clock + Net + Wait>(
     alloc: Global,
     listen: SocketAddr,
     survey: &mut Survey,
-) -> Result<(), Fault>
+) -> Result<(), SurveyError>
     requires { IsSurvey survey.old }
     ensures over { OnOk result (HasEnded survey.old.timing.tries (rows_of survey.old) (rows_of survey.new)) }
-    ensures faults { IfErr result IsOfSurveySetup }
 {
     let Ok(mut port) = UdpPort::bind_for(rt, listen, WAIT_LIMIT) else {
-        return Err(Fault::Socket);
+        return Err(SurveyError::Socket);
     };
     let mut timer = ClockTimer::new(rt);
     match survey_meters(rt, alloc, &mut timer, &mut port, survey) {
         Ok(()) => Ok(()),
-        Err(Stop::Closed) => Err(Fault::Socket),
-        Err(Stop::OutOfMemory) => Err(Fault::OutOfMemory),
+        Err(Stop::Closed) => Err(SurveyError::Socket),
+        Err(Stop::OutOfMemory) => Err(SurveyError::OutOfMemory),
     }
 }
 

@@ -4,26 +4,26 @@ ghost use Rattle.std.specs.Prelude.{◌≡◌, ◌≢◌, ◌⊎◌, ℕ, List, 
 ghost use Rattle.std.specs.Option.{option_map};
 ghost use Rattle.fw_capture.specs.declared.fault.CaptureError.{CaptureError};
 ghost use Rattle.fw_dissect.specs.Streams.{Dissects, TellsFront};
-ghost use Rattle.fw_host.specs.Sealings.{IsOfMeterKeys};
+ghost use Rattle.fw_key_files.specs.Refusals.{IsOfReading};
 ghost use Rattle.fw_keys.specs.declared.error.BadLine.{BadLine as Why};
 ghost use Rattle.fw_keys.specs.Refusals.{NoHeadKeys};
-ghost use Rattle.fw_cli.specs.Faults.{IsOfTrace};
-ghost use Rattle.fw_cli.specs.Tracing.{AreOfFile, CountsAsCut};
-ghost use Rattle.fw_cli.specs.Private.{fault_of_trace};
+ghost use Rattle.fw_cli.specs.Tracing.{AreOfFile, CountsAsCut, fault_of_trace};
+ghost use Rattle.fw_cli.specs.Private.{trace_error};
 
 use fw_capture::{CaptureError, CaptureFault};
 use fw_disk::Because;
 use fw_dissect::{DissectError, dissect};
 use fw_faults::Fault;
-use fw_host::fault_of_key_file;
-use fw_key_files::head_keys;
+use fw_key_files::{KeyFileError, head_keys};
 use fw_names::HeadId;
 use fw_seal::Link;
 use fw_unseal::both_ends;
 use std::alloc::Global;
+use std::fmt;
 use std::fs::File;
 use std::io::{Read, Write};
 use std::rt::Files;
+use thiserror::Error;
 
 /// Whose links open what a capture has.
 #[derive(Clone, Copy)]
@@ -32,6 +32,44 @@ pub struct TraceKeys<'a> {
     pub path: &'a str,
     /// The number of the head end.
     pub head: HeadId,
+}
+
+/// Why a capture isn't told up to its end. It prints its name, and of a bad capture its fault and the offset.
+#[derive(Clone, Copy, Debug, Error)]
+pub enum TraceError {
+    /// The first fault of the capture, with the offset of its record.
+    BadCapture(CaptureError),
+    /// The reader failed, or came to no end.
+    Input,
+    /// The writer of captures failed, or a datagram makes no record.
+    CaptureFault,
+    /// The writer failed.
+    Output,
+    /// Memory was refused.
+    OutOfMemory,
+}
+
+impl fmt::Display for TraceError {
+    fn fmt<W: fmt::Write>(&self, f: &mut fmt::Formatter<W>) -> fmt::Result {
+        match self {
+            TraceError::BadCapture(error) => write!(f, "BadCapture {error}"),
+            other => fmt::Debug::fmt(other, f),
+        }
+    }
+}
+
+impl From<TraceError> for Fault {
+    ghost from_gives = { λ error fault. fault ≡ fault_of_trace error };
+
+    fn from(error: TraceError) -> Fault {
+        match error {
+            TraceError::BadCapture(error) => Fault::BadCapture(error),
+            TraceError::Input => Fault::Input,
+            TraceError::CaptureFault => Fault::CaptureFault,
+            TraceError::Output => Fault::Output,
+            TraceError::OutOfMemory => Fault::OutOfMemory,
+        }
+    }
 }
 
 /// The links of a key file, each as the head end has it and as the meter has it. So what either of the two sealed, one of them opens.
@@ -46,25 +84,20 @@ pub fn trace_links<F: Files<File = File>>(
     rt: &F,
     alloc: Global,
     keys: &TraceKeys<'_>,
-) -> Result<Vec<Link>, Because<Fault>>
+) -> Result<Vec<Link>, Because<KeyFileError>>
     // Of the file nothing is known here, so its text is some one.
     ensures links { IfOk result (λ links. AreOfFile keys.now.head links.items) }
-    ensures bad { IfErr result (λ b. (line : ℕ) (why : Why) → b.error ≡ Fault.BadKeys line why
+    ensures bad { IfErr result (λ b. (line : ℕ) (why : Why) → b.error ≡ KeyFileError.BadKeys line why
         → (text : List ℕ) × NoHeadKeys text keys.now.head line why) }
-    ensures faults { IfErr result (λ b. IsOfMeterKeys b.error) }
+    ensures faults { IfErr result (λ b. IsOfReading b.error) }
 {
     let file = match head_keys(rt, alloc, keys.path, keys.head) {
         Ok(file) => file,
-        Err(because) => {
-            return Err(Because {
-                error: fault_of_key_file(because.error),
-                reason: because.reason,
-            });
-        }
+        Err(because) => return Err(because),
     };
     match both_ends(alloc, &file) {
         Ok(links) => Ok(links),
-        Err(_) => Err(Because::from(Fault::OutOfMemory)),
+        Err(_) => Err(Because::from(KeyFileError::OutOfMemory)),
     }
 }
 
@@ -99,40 +132,39 @@ pub fn run_trace<R: Read, W: Write, C: Write>(
     reader: &mut R,
     writer: &mut W,
     plain: &mut Option<C>,
-) -> Result<(), Fault>
+) -> Result<(), TraceError>
     // All of the capture is reported, or what stands before its first fault.
     ensures ok { OnOk result (Dissects times links.now None (R.remaining reader.old) (R.remaining reader.new)
         (W.contents writer.old) (W.contents writer.new) (option_map C.contents plain.old) (option_map C.contents plain.new)) }
-    ensures bad_capture { (error : CaptureError) → result ≡ Err (Fault.BadCapture error)
+    ensures bad_capture { (error : CaptureError) → result ≡ Err (TraceError.BadCapture error)
         → Dissects times links.now (Some error) (R.remaining reader.old) (R.remaining reader.new)
         (W.contents writer.old) (W.contents writer.new) (option_map C.contents plain.old) (option_map C.contents plain.new)
         ⊎ CountsAsCut (R.remaining reader.old) error }
 
     // Whatever ends it, what was told are its first records.
-    ensures front { IfErr result (λ f. f ≢ Fault.Output
+    ensures front { IfErr result (λ e. e ≢ TraceError.Output
         → TellsFront times links.now (R.remaining reader.old) (W.contents writer.old) (W.contents writer.new)) }
-    ensures asked { result ≡ Err Fault.CaptureFault → IsTrue (is_some plain.old) }
-    ensures faults { IfErr result IsOfTrace }
+    ensures asked { result ≡ Err TraceError.CaptureFault → IsTrue (is_some plain.old) }
 {
     match dissect(alloc, links, times, reader, writer, plain) {
         Ok(None) => Ok(()),
-        Ok(Some(error)) => Err(Fault::BadCapture(error)),
-        Err(error) => Err(fault_of(error)),
+        Ok(Some(error)) => Err(TraceError::BadCapture(error)),
+        Err(error) => Err(trace_error(error)),
     }
 }
 
-/// The fault where a capture isn't told up to its end, or up to its first fault.
-fn fault_of(error: DissectError) -> Fault
-    ensures { result ≡ fault_of_trace error }
+/// Why a capture isn't told up to its end, or up to its first fault.
+fn trace_error(error: DissectError) -> TraceError
+    ensures { result ≡ trace_error error }
 {
     match error {
-        DissectError::TooLong(offset) => Fault::BadCapture(CaptureError {
+        DissectError::TooLong(offset) => TraceError::BadCapture(CaptureError {
             fault: CaptureFault::CutPacket,
             offset,
         }),
-        DissectError::Input => Fault::Input,
-        DissectError::NoRecord | DissectError::Plain => Fault::CaptureFault,
-        DissectError::Output => Fault::Output,
-        DissectError::OutOfMemory => Fault::OutOfMemory,
+        DissectError::Input => TraceError::Input,
+        DissectError::NoRecord | DissectError::Plain => TraceError::CaptureFault,
+        DissectError::Output => TraceError::Output,
+        DissectError::OutOfMemory => TraceError::OutOfMemory,
     }
 }

@@ -4,16 +4,15 @@ ghost use Rattle.std.specs.Prelude.{◌≡◌, ◌⊎◌, ◌++◌, ℕ, IfOk, I
 ghost use Rattle.fw_world.specs.Runs.{events_of};
 ghost use Rattle.fw_world.specs.Setup.{IsSetup};
 ghost use Rattle.fw_faults.specs.Reading.{ReadsUntil};
-ghost use Rattle.fw_cli.specs.Private.{fault_of_rehearsal};
+ghost use Rattle.fw_cli.specs.Private.{fault_of_script_input};
 ghost use Rattle.fw_cli.specs.Rehearsing.{ReadsScript, TellsOfWorkers, TracesWorkers};
 ghost use Rattle.fw_cli.specs.Replaying.{MayWantFor, ReadsOne};
 ghost use Rattle.fw_script.specs.Script.{BeginsScript, IsBadLine, SpellsScript, script_of};
 
 use fw_accounts::{Report, recorded_events};
-use fw_faults::{Fault, Reads, read_input};
+use fw_faults::{InputError, Reads, read_input};
 use fw_report::{append_board, append_report, append_trace_of};
 use fw_script::{Script, ScriptError, read_script};
-use fw_workers::RehearseError;
 use fw_world::{Event, Setup, World};
 use std::alloc::{AllocError, Global};
 use std::io::Read;
@@ -25,47 +24,51 @@ pub(crate) struct Told {
     pub(crate) world: World,
 }
 
+/// Why no script is read.
+#[derive(Clone, Copy)]
+pub(crate) enum ScriptInputError {
+    /// The reader failed, or came to no end within 2^32 reads.
+    Input,
+    /// The reader had more than 64 MiB.
+    TooMuchInput,
+    /// The line of this number, counted from 1, can't go on with the script that the lines before it begin.
+    BadLine(u64),
+    /// Memory was refused.
+    OutOfMemory,
+}
+
 /// The script that all of the reader's input spells.
-pub(crate) fn script_from<R: Read>(alloc: Global, reader: &mut R) -> Result<Script, Fault>
+pub(crate) fn script_from<R: Read>(
+    alloc: Global,
+    reader: &mut R,
+) -> Result<Script, ScriptInputError>
     ensures ok { IfOk result (λ script. ReadsScript (R.remaining reader.old) (R.remaining reader.new) script.setup script.events.items) }
-    ensures bad_line { (number : ℕ) → result ≡ Err (Fault.BadLine number)
+    ensures bad_line { (number : ℕ) → result ≡ Err (ScriptInputError.BadLine number)
         → ReadsOne (R.remaining reader.old) (R.remaining reader.new) (λ input. IsBadLine input number) }
-    ensures memory { result ≡ Err Fault.OutOfMemory → MayWantFor (R.remaining reader.old) (R.remaining reader.new) }
-    ensures reading { IfErr result (λ f. ReadsUntil f (R.remaining reader.old) (R.remaining reader.new)) }
-    ensures faults { IfErr result (λ f. (f ≡ Fault.Input) ⊎ ((f ≡ Fault.TooMuchInput)
-        ⊎ ((f ≡ Fault.OutOfMemory) ⊎ ((number : ℕ) × (f ≡ Fault.BadLine number))))) }
+    ensures memory { result ≡ Err ScriptInputError.OutOfMemory → MayWantFor (R.remaining reader.old) (R.remaining reader.new) }
+    ensures reading { IfErr result (λ e. ReadsUntil (fault_of_script_input e) (R.remaining reader.old) (R.remaining reader.new)) }
 {
     let mut reads = Reads::none();
-    let input = read_input(alloc, reader, &mut reads)?;
+    let input = match read_input(alloc, reader, &mut reads) {
+        Ok(input) => input,
+        Err(InputError::Input) => return Err(ScriptInputError::Input),
+        Err(InputError::TooMuchInput) => return Err(ScriptInputError::TooMuchInput),
+        Err(InputError::OutOfMemory) => return Err(ScriptInputError::OutOfMemory),
+    };
     script_of(alloc, &input)
 }
 
 /// The script that the input spells.
-pub(crate) fn script_of(alloc: Global, input: &[u8]) -> Result<Script, Fault>
+fn script_of(alloc: Global, input: &[u8]) -> Result<Script, ScriptInputError>
     ensures ok { IfOk result (λ script. SpellsScript input.now (script_of script.setup script.events.items)) }
-    ensures bad_line { (number : ℕ) → result ≡ Err (Fault.BadLine number) → IsBadLine input.now number }
-    ensures memory { result ≡ Err Fault.OutOfMemory → BeginsScript input.now }
-    ensures faults { IfErr result (λ f. (f ≡ Fault.OutOfMemory) ⊎ ((number : ℕ) × (f ≡ Fault.BadLine number))) }
+    ensures bad_line { (number : ℕ) → result ≡ Err (ScriptInputError.BadLine number) → IsBadLine input.now number }
+    ensures memory { result ≡ Err ScriptInputError.OutOfMemory → BeginsScript input.now }
+    ensures faults { IfErr result (λ e. (e ≡ ScriptInputError.OutOfMemory) ⊎ ((number : ℕ) × (e ≡ ScriptInputError.BadLine number))) }
 {
     match read_script(alloc, input) {
         Ok(script) => Ok(script),
-        Err(ScriptError::BadLine(number)) => Err(Fault::BadLine(number)),
-        Err(ScriptError::OutOfMemory) => Err(Fault::OutOfMemory),
-    }
-}
-
-/// The fault that says why workers have no report.
-pub(crate) fn fault_of(error: RehearseError) -> Fault
-    ensures { result ≡ fault_of_rehearsal error }
-{
-    match error {
-        RehearseError::Mismatch => Fault::Mismatch,
-        RehearseError::ThreadRefused => Fault::ThreadRefused,
-        RehearseError::Event(_) => Fault::Event,
-        RehearseError::OutOfMemory => Fault::OutOfMemory,
-        RehearseError::Socket => Fault::Socket,
-        RehearseError::GateShut => Fault::GateShut,
-        RehearseError::BadSetup => Fault::BadSetup,
+        Err(ScriptError::BadLine(number)) => Err(ScriptInputError::BadLine(number)),
+        Err(ScriptError::OutOfMemory) => Err(ScriptInputError::OutOfMemory),
     }
 }
 

@@ -83,8 +83,13 @@ datagram_line number from to words = front_text number from to ++ (words ++ code
 
 abbrev pub note_line : Note → List ℕ
 note_line notes.Start = codes "start\n"
+note_line (notes.MeterStart count heads) = codes "start meter count " ++ (decimal count ++ (codes " heads " ++ (decimal heads ++ codes "\n")))
+note_line (notes.HeadStart head) = codes "start head " ++ (decimal head ++ codes "\n")
+note_line (notes.MayAskV4 octets port) = codes "may ask " ++ (ipv4_text octets ++ (codes ":" ++ (decimal port ++ codes "\n")))
+note_line (notes.MayAskV6 octets port) = codes "may ask [" ++ (ipv6_text (segments_of octets) ++ (codes "]:" ++ (decimal port ++ codes "\n")))
 note_line notes.Turn = codes "turn\n"
 note_line (notes.TurnAt port) = codes "turn " ++ (decimal port ++ codes "\n")
+note_line (notes.UnservedAt port) = codes "unserved " ++ (decimal port ++ codes "\n")
 note_line (notes.Strangers count) = codes "strangers " ++ (decimal count ++ codes "\n")
 
 -- the time and a space, where times are asked for

@@ -9,7 +9,7 @@ use fw_calendar::append_time;
 use fw_capture::{Content, Note, Packet};
 use fw_seal::Link;
 use std::alloc::{AllocError, Global};
-use std::net::{Ipv6Addr, SocketAddr};
+use std::net::{Ipv4Addr, Ipv6Addr, SocketAddr};
 
 /// Appends the line of a packet, with its time where times are asked for, and returns the number of the next datagram.
 pub(crate) fn append_line(
@@ -58,10 +58,38 @@ fn append_note(text: &mut String, note: Note) -> Result<(), AllocError>
 {
     match note {
         Note::Start => text.push_str("start\n"),
+        Note::MeterStart { count, heads } => append_meter_start(text, count, heads),
+        Note::HeadStart(head) => write!(text, "start head {head}\n"),
+        Note::MayAskV4(octets, port) => append_asking_v4(text, octets, port),
+        Note::MayAskV6(octets, port) => append_asking_v6(text, octets, port),
         Note::Turn => text.push_str("turn\n"),
         Note::TurnAt(port) => write!(text, "turn {port}\n"),
+        Note::UnservedAt(port) => write!(text, "unserved {port}\n"),
         Note::Strangers(count) => write!(text, "strangers {count}\n"),
     }
+}
+
+/// Appends the line of a start of meters.
+fn append_meter_start(text: &mut String, count: u32, heads: u64) -> Result<(), AllocError>
+    ensures { OnOk result (string_bytes text.new ≡ string_bytes text.old ++ note_line (Note.MeterStart count heads)) }
+{
+    write!(text, "start meter count {count} heads {heads}\n")
+}
+
+/// Appends the line of an address of IPv4 that may ask.
+fn append_asking_v4(text: &mut String, octets: [u8; 4], port: u16) -> Result<(), AllocError>
+    ensures { OnOk result (string_bytes text.new ≡ string_bytes text.old ++ note_line (Note.MayAskV4 octets port)) }
+{
+    let ip = Ipv4Addr::from_octets(octets);
+    write!(text, "may ask {ip}:{port}\n")
+}
+
+/// Appends the line of an address of IPv6 that may ask.
+fn append_asking_v6(text: &mut String, octets: [u8; 16], port: u16) -> Result<(), AllocError>
+    ensures { OnOk result (string_bytes text.new ≡ string_bytes text.old ++ note_line (Note.MayAskV6 octets port)) }
+{
+    let ip = Ipv6Addr::from_octets(octets);
+    write!(text, "may ask [{ip}]:{port}\n")
 }
 
 /// Appends the line of a datagram.

@@ -1,6 +1,5 @@
 -- Public vocabulary: why what is found of a meter doesn't fit.
 use Rattle.std.specs.Prelude.{◌≡◌, ℕ, List, Some, slice_get}
-use Rattle.std.specs.declared.net.socket_addr.SocketAddr.{SocketAddr}
 use Rattle.fw_image.specs.Meter.{Image, Meter}
 use Rattle.fw_audit.specs.Departures.{IsDeparture, MayWantMemory}
 use Rattle.fw_audit.specs.Log.{Item}
@@ -14,22 +13,22 @@ use Rattle.fw_evidence.specs.declared.error.Mark.{Mark}
 use Rattle.fw_evidence.specs.declared.site.Site.{Site}
 
 -- the capture is a log that departs from what the meter does, first at the item of this mark, which breaks this rule
-pub record DepartsAt (heads : List SocketAddr) (site : Site) (begin : Meter) (capture : List ℕ) (mark : Mark) (rule : Rule) : Type 0 where
+pub record DepartsAt (site : Site) (begin : Meter) (capture : List ℕ) (mark : Mark) (rule : Rule) : Type 0 where
   pub log : List Item
   pub marks : List Mark
   pub is : IsLogOf site capture log marks
   pub departure : Departure
-  pub departs : IsDeparture heads (ended begin) log departure
+  pub departs : IsDeparture site.heads.now (ended begin) log departure
   pub broken : departure.rule ≡ rule
   pub there : slice_get marks departure.at ≡ Some mark
 
 -- the capture is a log of the meter, and with it no meter leaves the store that was found
-pub record LeavesOther (heads : List SocketAddr) (site : Site) (begin : Meter) (capture : List ℕ) (end : Meter) : Type 0 where
+pub record LeavesOther (site : Site) (begin : Meter) (capture : List ℕ) (end : Meter) : Type 0 where
   pub log : List Item
   pub marks : List Mark
   pub is : IsLogOf site capture log marks
-  pub own : IsLog heads begin log
-  pub none : (images : List Image) → IsMeterLog heads begin log images end → ⊥
+  pub own : IsLog site.heads.now begin log
+  pub none : (images : List Image) → IsMeterLog site.heads.now begin log images end → ⊥
 
 -- the capture is a log that begins with a start, and memory may be wanted for it
 pub record MayWant (site : Site) (capture : List ℕ) : Type 0 where
@@ -38,8 +37,8 @@ pub record MayWant (site : Site) (capture : List ℕ) : Type 0 where
   pub is : IsLogOf site capture log marks
   pub starts : MayWantMemory log
 
-abbrev pub IsUnfit : List SocketAddr → Site → Meter → List ℕ → Meter → EvidenceError → Type 0
-IsUnfit heads site begin capture end (errors.NoLog error) = IsNoLog site capture error
-IsUnfit heads site begin capture end (errors.Departs mark rule) = DepartsAt heads site begin capture mark rule
-IsUnfit heads site begin capture end errors.OtherStore = LeavesOther heads site begin capture end
-IsUnfit heads site begin capture end errors.OutOfMemory = MayWant site capture
+abbrev pub IsUnfit : Site → Meter → List ℕ → Meter → EvidenceError → Type 0
+IsUnfit site begin capture end (errors.NoLog error) = IsNoLog site capture error
+IsUnfit site begin capture end (errors.Departs mark rule) = DepartsAt site begin capture mark rule
+IsUnfit site begin capture end errors.OtherStore = LeavesOther site begin capture end
+IsUnfit site begin capture end errors.OutOfMemory = MayWant site capture

@@ -10,6 +10,8 @@ use Rattle.fw_capture.specs.View.{Endpoint, ipv4, ipv6, Told, datagram, note, ot
 use Rattle.fw_audit.specs.Log.{Item, started, came, sent, turned}
 use Rattle.fw_evidence.specs.declared.error.Stray.{Stray}
 use Rattle.fw_evidence.specs.declared.error.Stray.TheVariants as stray
+use Rattle.fw_evidence.specs.declared.site.Side.{Side}
+use Rattle.fw_evidence.specs.declared.site.Side.TheVariants as sides
 use Rattle.fw_evidence.specs.declared.site.Site.{Site}
 
 -- an item of a log as a record has it: of an address the IP address and the port
@@ -52,25 +54,59 @@ exchange_at site from to bytes =
     else (if is_own site to then (if is_other site from then Err stray.ToItself else Ok (comes from bytes ∷ []))
     else (if is_other site from || is_other site to then Ok [] else Err stray.Elsewhere))
 
--- a turn of the meter that has this port
-abbrev pub turn_at : Site → ℕ → Result (List Entry) Stray
-turn_at site port =
-    if socket_port site.at == port then Ok (turns ∷ [])
+-- what is of the meter that has this port alone
+abbrev pub at_port : Site → ℕ → Entry → Result (List Entry) Stray
+at_port site port entry =
+    if socket_port site.at == port then Ok (entry ∷ [])
     else (if list_any (λ (other : SocketAddr). socket_port other == port) site.others.now then Ok [] else Err stray.Elsewhere)
 
 -- a turn of a meter that isn't named: of the only one, if there is one
 abbrev pub some_turn : Site → Result (List Entry) Stray
 some_turn site = if length site.others.now == 0 then Ok (turns ∷ []) else Err stray.UnnamedTurn
 
--- what a note is. All meters of a process start with it. One that counts datagrams of strangers is nothing: their meter drops them
+-- whether an address is one of those that may ask
+abbrev pub is_head : Site → Endpoint → Bool
+is_head site end = list_any (λ (head : SocketAddr). same_end (endpoint_of head) end) site.heads.now
+
+-- a start of meters that so many addresses may ask, which are as many as here
+abbrev pub start_at : Site → ℕ → Result (List Entry) Stray
+start_at site heads = if length site.heads.now == heads then Ok (starts ∷ []) else Err stray.OtherHeads
+
+-- that an address may ask which may do so here is nothing: the start is there
+abbrev pub asking_at : Site → Endpoint → Result (List Entry) Stray
+asking_at site end = if is_head site end then Ok [] else Err stray.OtherHeads
+
+-- what a note is to a meter. All meters of a process start with it. That memory was refused to a meter is a start of its own: it goes on as if its
+-- process had been killed as the datagram came. A note that counts datagrams of strangers is nothing: their meter drops them
 abbrev pub noted : Site → Note → Result (List Entry) Stray
 noted site notes.Start = Ok (starts ∷ [])
+noted site (notes.MeterStart count heads) = start_at site heads
+noted site (notes.HeadStart head) = Err stray.StartedAsHead
+noted site (notes.MayAskV4 octets port) = asking_at site (ipv4 octets port)
+noted site (notes.MayAskV6 octets port) = asking_at site (ipv6 octets port)
 noted site notes.Turn = some_turn site
-noted site (notes.TurnAt port) = turn_at site port
+noted site (notes.TurnAt port) = at_port site port turns
+noted site (notes.UnservedAt port) = at_port site port starts
 noted site (notes.Strangers count) = Ok []
 
--- the entries of what a record tells to the meter at a site, one or none; or why it is of no meter there
+-- What a note is to a head end. It has none of what only meters do.
+abbrev pub noted_of_head : Note → Result (List Entry) Stray
+noted_of_head notes.Start = Ok (starts ∷ [])
+noted_of_head (notes.MeterStart count heads) = Err stray.StartedAsMeter
+noted_of_head (notes.HeadStart head) = Ok (starts ∷ [])
+noted_of_head (notes.MayAskV4 octets port) = Err stray.StartedAsMeter
+noted_of_head (notes.MayAskV6 octets port) = Err stray.StartedAsMeter
+noted_of_head notes.Turn = Err stray.NoteOfMeter
+noted_of_head (notes.TurnAt port) = Err stray.NoteOfMeter
+noted_of_head (notes.UnservedAt port) = Err stray.NoteOfMeter
+noted_of_head (notes.Strangers count) = Ok []
+
+abbrev pub noted_by : Side → Site → Note → Result (List Entry) Stray
+noted_by sides.Meter site n = noted site n
+noted_by sides.Head site n = noted_of_head n
+
+-- the entries of what a record tells to the end at a site, one or none; or why it is of no end there
 abbrev pub entries_at : Site → Told → Result (List Entry) Stray
 entries_at site (datagram from to bytes) = exchange_at site from to bytes
-entries_at site (note n) = noted site n
+entries_at site (note n) = noted_by site.side site n
 entries_at site other = Err stray.NoEntry

@@ -1,6 +1,7 @@
 -- Public vocabulary: the words of public clauses, for callers and readers.
 pub mod Entries
 pub mod Captures
+pub mod Heads
 pub mod Audits
 pub mod Stores
 -- For private members alone: no public clause cites it.

@@ -16,7 +16,6 @@ use fw_audit::{AuditError, Departure, Switched, audit_meter};
 use fw_meter::MeterCore;
 use fw_store::MemoryStore;
 use std::alloc::Global;
-use std::net::SocketAddr;
 
 /// What was found right of a meter.
 #[derive(Drop)]
@@ -27,8 +26,8 @@ pub struct Audited<'a> {
     pub images: Vec<Switched>,
 }
 
-/// Whether this capture is a log of the meter at a site that `begin` was, which just these addresses may ask (any, if there are none), and
-/// that meter is what `end` is after it. Both meters are as their stores hold them at rest.
+/// Whether this capture is a log of the meter at a site that `begin` was, and that meter is what `end` is after it. Both meters are as their
+/// stores hold them at rest.
 ///
 /// # Errors
 ///
@@ -38,7 +37,6 @@ pub struct Audited<'a> {
 /// - `OutOfMemory`: the capture is a log that begins with a start, and memory was refused to follow it.
 pub fn audit_capture<'a>(
     alloc: Global,
-    heads: &[SocketAddr],
     site: Site<'_>,
     begin: MeterCore<MemoryStore>,
     capture: &'a [u8],
@@ -46,15 +44,15 @@ pub fn audit_capture<'a>(
 ) -> Result<Audited<'a>, EvidenceError>
     requires { IsCapacity begin.meter.capacity }
     ensures log { IfOk result (λ found. IsLogOf site.entry capture.now (log_of found.log.items.items) found.log.marks.items) }
-    ensures is { IfOk result (λ found. IsMeterLog heads.now (reopened begin.meter) (log_of found.log.items.items) found.images.items
+    ensures is { IfOk result (λ found. IsMeterLog site.entry.heads.now (reopened begin.meter) (log_of found.log.items.items) found.images.items
         end.now.meter) }
-    ensures refused { IfErr result (λ error. IsUnfit heads.now site.entry (reopened begin.meter) capture.now end.now.meter error) }
+    ensures refused { IfErr result (λ error. IsUnfit site.entry (reopened begin.meter) capture.now end.now.meter error) }
 {
     let log = match read_log(alloc, site, capture) {
         Ok(log) => log,
         Err(error) => return Err(EvidenceError::NoLog(error)),
     };
-    match audit_meter(alloc, heads, begin, &log.items, end) {
+    match audit_meter(alloc, site.heads, begin, &log.items, end) {
         Ok(images) => Ok(Audited { log, images }),
         Err(error) => Err(placed(&log.marks, error)),
     }

@@ -14,7 +14,7 @@ pub struct Mark {
     pub offset: usize,
 }
 
-/// Why a record is none of the meter whose log is read, nor of another one of its process.
+/// Why a record is none of the end whose log is read, nor of another meter of its process.
 #[derive(Clone, Copy, Debug)]
 pub enum Stray {
     /// It is neither a UDP datagram nor a note.
@@ -26,14 +26,22 @@ pub enum Stray {
     ToItself,
     /// It is a turn, and of which of several meters isn't known.
     UnnamedTurn,
+    /// It is the start of a head end, and the log is a meter's.
+    StartedAsHead,
+    /// It is the start of meters that others may ask than those at their site, or it names such an address.
+    OtherHeads,
+    /// It is of the start of meters, and the log is a head end's.
+    StartedAsMeter,
+    /// It is of a turn, or of memory that was refused to a meter, and the log is a head end's.
+    NoteOfMeter,
 }
 
-/// Why a capture is no log of a meter.
+/// Why a capture is no log of a meter, or none of a head end.
 #[derive(Clone, Copy, Debug, Error)]
 pub enum LogError {
-    /// The capture has this fault first. The records before it are the meter's.
+    /// The capture has this fault first. The records before it are the end's.
     Fault(CaptureError),
-    /// This record is of no meter of the process, and those before it are.
+    /// This record is of no end of the process, and those before it are.
     Stray(Mark, Stray),
     /// Memory was refused for an item.
     OutOfMemory,

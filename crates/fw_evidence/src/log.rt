@@ -13,7 +13,7 @@ use fw_audit::LogItem;
 use fw_capture::{Content, Reader};
 use std::alloc::{AllocError, Global};
 
-/// The log of a meter, as a capture has it.
+/// The log of a meter or of a head end, as a capture has it.
 #[derive(Drop)]
 pub struct Log<'a> {
     pub items: Vec<LogItem<'a>>,

@@ -6,18 +6,32 @@ ghost use Rattle.std.specs.Net.Socket.{socket_port};
 ghost use Rattle.std.specs.Str.{bytes_eq};
 ghost use Rattle.std.specs.declared.net.socket_addr.SocketAddr.{SocketAddr};
 ghost use Rattle.std.specs.declared.net.socket_addr.SocketAddr.TheVariants.{V4, V6};
-ghost use Rattle.fw_capture.specs.View.{endpoint_of};
-ghost use Rattle.fw_evidence.specs.Entries.{is_other, is_own, same_end};
+ghost use Rattle.fw_capture.specs.View.{endpoint_of, ipv4, ipv6};
+ghost use Rattle.fw_evidence.specs.Entries.{is_head, is_other, is_own, same_end};
 
 use std::net::{SocketAddr, SocketAddrV4, SocketAddrV6};
 
-/// The address of a meter, and those of the other meters of its process, which write into the same capture.
+/// What an end is.
+#[derive(Clone, Copy)]
+pub enum Side {
+    /// A meter.
+    Meter,
+    /// A head end.
+    Head,
+}
+
+/// The address of a meter, those of the other meters of its process, which write into the same capture, and those that may ask them. A head end
+/// is alone, and asks.
 #[derive(Clone, Copy)]
 pub struct Site<'a> {
+    /// Whether it is a meter or a head end.
+    pub side: Side,
     /// Its address, as the capture has it.
     pub at: SocketAddr,
     /// Theirs: other ports of the same IP address.
     pub others: &'a [SocketAddr],
+    /// Who may ask, and any address if there is none.
+    pub heads: &'a [SocketAddr],
 }
 
 impl<'a> Site<'a> {
@@ -40,6 +54,40 @@ impl<'a> Site<'a> {
         ensures { result ≡ list_any (λ (other : SocketAddr). socket_port other == port) self.now.others.now }
     {
         self.others.iter().any(|other| other.port() == port)
+    }
+
+    /// Whether an address of IPv4 is one of those that may ask.
+    pub(crate) fn has_head_v4(&self, octets: &[u8], port: u16) -> bool
+        ensures { result ≡ is_head self.now (ipv4 octets.now port) }
+    {
+        self.heads.iter().any(|head| is_at_v4(*head, octets, port))
+    }
+
+    /// Whether one of IPv6 is.
+    pub(crate) fn has_head_v6(&self, octets: &[u8], port: u16) -> bool
+        ensures { result ≡ is_head self.now (ipv6 octets.now port) }
+    {
+        self.heads.iter().any(|head| is_at_v6(*head, octets, port))
+    }
+}
+
+/// Whether an address is this one of IPv4.
+fn is_at_v4(head: SocketAddr, octets: &[u8], port: u16) -> bool
+    ensures { result ≡ same_end (endpoint_of head) (ipv4 octets.now port) }
+{
+    match head {
+        SocketAddr::V4(head) => head.port() == port && are_same(&head.ip().octets(), octets),
+        SocketAddr::V6(_) => false,
+    }
+}
+
+/// Whether an address is this one of IPv6.
+fn is_at_v6(head: SocketAddr, octets: &[u8], port: u16) -> bool
+    ensures { result ≡ same_end (endpoint_of head) (ipv6 octets.now port) }
+{
+    match head {
+        SocketAddr::V4(_) => false,
+        SocketAddr::V6(head) => head.port() == port && are_same(&head.ip().octets(), octets),
     }
 }
 

@@ -1,4 +1,4 @@
--- Public vocabulary: the fault that each error of the libraries below is to a command.
+-- Public vocabulary: the fault that each error of input and of the libraries below is to a command.
 use Rattle.fw_store.specs.declared.error.FileStoreError.{FileStoreError}
 use Rattle.fw_store.specs.declared.error.FileStoreError.TheVariants as file
 use Rattle.fw_image.specs.declared.error.OpenError.{OpenError}
@@ -13,8 +13,16 @@ use Rattle.fw_keys.specs.declared.error.KeysError.{KeysError}
 use Rattle.fw_keys.specs.declared.error.KeysError.TheVariants as keys
 use Rattle.fw_counter.specs.declared.error.CounterError.{CounterError}
 use Rattle.fw_counter.specs.declared.error.CounterError.TheVariants as counter
+use Rattle.fw_faults.specs.declared.error.InputError.{InputError}
+use Rattle.fw_faults.specs.declared.error.InputError.TheVariants as input
 use Rattle.fw_faults.specs.declared.fault.Fault.{Fault}
-use Rattle.fw_faults.specs.declared.fault.Fault.TheVariants.{BadSetup, StoreFault, Device, BadFile, BadHeader, BadImage, Socket, BookExists, Locked, BookFault, BadBook, BadRecord, ForeignHead, Full, BadKeys, CounterFault, CounterSpent, OutOfMemory}
+use Rattle.fw_faults.specs.declared.fault.Fault.TheVariants.{BadSetup, Input, TooMuchInput, StoreFault, Device, BadFile, BadHeader, BadImage, Socket, BookExists, Locked, BookFault, BadBook, BadRecord, ForeignHead, Full, BadKeys, CounterFault, CounterSpent, OutOfMemory}
+
+-- the fault that says why input was not read
+abbrev pub fault_of_input : InputError → Fault
+fault_of_input input.Input = Input
+fault_of_input input.TooMuchInput = TooMuchInput
+fault_of_input input.OutOfMemory = OutOfMemory
 
 -- the fault that says why a file was not made or opened
 abbrev pub fault_of_file : FileStoreError → Fault

@@ -1,9 +1,10 @@
 //! Reading all that a reader has, within limits.
 
 ghost use Rattle.std.specs.Prelude.{◌≡◌, ◌<◌, ◌≤◌, ◌⊎◌, IsTrue, IfOk, IfErr, false};
+ghost use Rattle.fw_faults.specs.Faults.{fault_of_input};
 ghost use Rattle.fw_faults.specs.Reading.{Gives, ReadsAll, ReadsUntil, max_input, max_reads};
 
-use crate::fault::Fault;
+use crate::error::InputError;
 use crate::reads::Reads;
 use std::alloc::Global;
 use std::io::Read;
@@ -28,17 +29,16 @@ pub fn read_input<R: Read>(
     alloc: Global,
     reader: &mut R,
     reads: &mut Reads,
-) -> Result<Vec<u8>, Fault>
+) -> Result<Vec<u8>, InputError>
     requires { reads.old ≡ record { made = 0; failed = false } }
     ensures all { IfOk result (λ input. ReadsAll (R.remaining reader.old) (R.remaining reader.new) input.items) }
 
-    // The fault that the reading meets first.
-    ensures reading { IfErr result (λ f. ReadsUntil f (R.remaining reader.old) (R.remaining reader.new)) }
-    ensures input_only { result ≡ Err Fault.Input → IsTrue reads.new.failed ⊎ (max_reads ≤ reads.new.made) }
-    ensures memory { result ≡ Err Fault.OutOfMemory
+    // The error that the reading meets first.
+    ensures reading { IfErr result (λ e. ReadsUntil (fault_of_input e) (R.remaining reader.old) (R.remaining reader.new)) }
+    ensures input_only { result ≡ Err InputError.Input → IsTrue reads.new.failed ⊎ (max_reads ≤ reads.new.made) }
+    ensures memory { result ≡ Err InputError.OutOfMemory
         → Gives (R.remaining reader.old) (R.remaining reader.new) (λ count. (1 ≤ count) × (count ≤ max_input)) }
-    ensures memory_only { result ≡ Err Fault.OutOfMemory → reads.new.failed ≡ false }
-    ensures faults { IfErr result (λ f. (f ≡ Fault.Input) ⊎ ((f ≡ Fault.TooMuchInput) ⊎ (f ≡ Fault.OutOfMemory))) }
+    ensures memory_only { result ≡ Err InputError.OutOfMemory → reads.new.failed ≡ false }
 {
     let mut input = Vec::new(alloc);
     let mut chunk = [0; CHUNK];
@@ -50,9 +50,9 @@ pub fn read_input<R: Read>(
             return Ok(input);
         }
         if count > MAX_INPUT - input.len() {
-            return Err(Fault::TooMuchInput);
+            return Err(InputError::TooMuchInput);
         }
         input.extend_from_slice(&chunk[..count])?;
     }
-    Err(Fault::Input)
+    Err(InputError::Input)
 }

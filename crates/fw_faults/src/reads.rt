@@ -4,7 +4,7 @@ ghost use Rattle.std.specs.Prelude.{◌≡◌, ◌+◌, ◌<◌, ◌≤◌, leng
 ghost use Rattle.std.specs.Io.KnownBytes.{Consumes, Keeps, IsAtEnd};
 ghost use Rattle.fw_faults.specs.Reading.{max_reads};
 
-use crate::fault::Fault;
+use crate::error::InputError;
 use std::io::{ErrorKind, Read};
 use std::marker::Model;
 
@@ -50,12 +50,12 @@ impl Reads {
         &mut self,
         reader: &mut R,
         chunk: &mut [u8],
-    ) -> Result<Option<usize>, Fault>
+    ) -> Result<Option<usize>, InputError>
         requires { self.old.made < max_reads }
         ensures counted { self.new.made ≡ self.old.made + 1 }
         ensures ok { OnOk result (self.new.failed ≡ self.old.failed) }
         ensures err { OnErr result (IsTrue self.new.failed) }
-        ensures faults { IfErr result (λ f. f ≡ Fault.Input) }
+        ensures faults { IfErr result (λ e. e ≡ InputError.Input) }
         ensures bytes { IfOk result (λ read. MatchOption read (Keeps (R.remaining reader.old) (R.remaining reader.new)) (λ count.
             (count ≤ length chunk.new) × Consumes (R.remaining reader.old) (R.remaining reader.new) (take count chunk.new)
             × (count ≡ 0 → 0 < length chunk.new → IsAtEnd (R.remaining reader.new)))) }
@@ -67,7 +67,7 @@ impl Reads {
             Err(error) if error.kind() == ErrorKind::Interrupted => Ok(None),
             Err(_) => {
                 self.failed = true;
-                Err(Fault::Input)
+                Err(InputError::Input)
             }
         }
     }

@@ -5,3 +5,4 @@ mod Makings
 pub mod Tellings
 mod Linkings
 mod Causes
+mod Starts

@@ -1,18 +1,21 @@
 -- Public vocabulary: the captures of daemons: what they get of a datagram, and the faults that end one.
-use Rattle.std.specs.Prelude.{◌≡◌, ◌⊎◌, ℕ, Bool, true, false, MatchBool, nat_lt, List, [], ◌∷◌, take, Option, Some, None, Err, if◌then◌else◌}
+use Rattle.std.specs.Prelude.{◌≡◌, ◌⊎◌, ℕ, Bool, true, false, MatchBool, nat_lt, List, [], ◌∷◌, length, map, take, Option, Some, None, Err, if◌then◌else◌}
 use Rattle.fw_capture.specs.Spelling.{file_header, packet_bytes}
 use Rattle.std.specs.Net.Socket.{socket_port}
 use Rattle.std.specs.declared.net.socket_addr.SocketAddr.{SocketAddr}
 use Rattle.fw_capture.specs.declared.fault.CaptureFault.{CaptureFault}
+use Rattle.fw_capture.specs.declared.packet.Note.{Note}
 use Rattle.fw_capture.specs.declared.packet.Note.TheVariants as notes
 use Rattle.fw_capture.specs.Reading.{header_at}
 use Rattle.fw_capture.specs.Whole.{IsForeignAt}
-use Rattle.fw_capture.specs.View.{Told, datagram, endpoint_of, note}
+use Rattle.fw_capture.specs.View.{Endpoint, ipv4, ipv6, Told, datagram, endpoint_of, note}
 use Rattle.fw_daemon.specs.Daemon.{one_more}
 use Rattle.fw_port.specs.declared.port.Arrival.{Arrival}
 use Rattle.fw_port.specs.declared.port.Patience.{Patience}
 use Rattle.fw_port.specs.declared.port.Patience.TheVariants.{Waits, Polls}
 use Rattle.fw_faults.specs.declared.fault.Fault.{Fault}
+use Rattle.fw_host.specs.declared.capture_start.Started.{Started}
+use Rattle.fw_host.specs.declared.capture_start.Started.TheVariants as started
 use Rattle.fw_host.specs.declared.strangers.Strangers.{Strangers}
 use Rattle.fw_host.specs.Strangers.{is_stranger}
 use Rattle.fw_faults.specs.declared.fault.Fault.TheVariants as faults
@@ -43,12 +46,29 @@ module _ {S : Type 0} (takes : S → S → List ℕ → Type 0) where
   CapturesAll count first last (told ∷ rest) =
       (mid : Option S) × CapturesNoted count first mid told × CapturesAll 0 mid last rest
 
-  -- What a process that starts puts into a capture with this front, as long as a file header, or all of it where it is shorter: the file
-  -- header, if the capture is empty, and the note of the start. Any other front is a file header.
-  abbrev pub StartsCapture : List ℕ → ℕ → S → S → Type 0
-  StartsCapture [] nanoseconds first last =
-      (mid : S) × takes first mid file_header × takes mid last (packet_bytes nanoseconds (note notes.Start))
-  StartsCapture (x ∷ xs) nanoseconds first last = ((x ∷ xs) ≡ file_header) × takes first last (packet_bytes nanoseconds (note notes.Start))
+  -- What a process puts into a capture with this front, as long as a file header, or all of it where it is shorter: the file header, if the
+  -- capture is empty. Any other front is a file header, and nothing is put.
+  abbrev pub BeginsCapture : List ℕ → S → S → Type 0
+  BeginsCapture [] first last = takes first last file_header
+  BeginsCapture (x ∷ xs) first last = ((x ∷ xs) ≡ file_header) × (last ≡ first)
+
+  -- The records of these were put at this time, one after another, each by a call of its own.
+  abbrev pub PutsAll : ℕ → S → S → List Told → Type 0
+  PutsAll nanoseconds first last [] = last ≡ first
+  PutsAll nanoseconds first last (told ∷ rest) = (mid : S) × takes first mid (packet_bytes nanoseconds told) × PutsAll nanoseconds mid last rest
+
+-- the note that an address may ask
+abbrev pub asking_note : Endpoint → Note
+asking_note (ipv4 octets port) = notes.MayAskV4 octets port
+asking_note (ipv6 octets port) = notes.MayAskV6 octets port
+
+abbrev pub asking_told : SocketAddr → Told
+asking_told head = note (asking_note (endpoint_of head))
+
+-- what is recorded of a start: what started, and then each address that may ask
+abbrev pub started_told : Started → List Told
+started_told (started.Meters count heads) = note (notes.MeterStart count (length heads.now)) ∷ map asking_told heads.now
+started_told (started.Head head) = note (notes.HeadStart head) ∷ []
 
 -- how many datagrams of strangers have no note behind these records
 abbrev pub count_after : ℕ → List Told → ℕ
@@ -60,6 +80,10 @@ abbrev pub turn_told : Bool → SocketAddr → Patience → List Told
 turn_told true at Polls = note (notes.TurnAt (socket_port at)) ∷ []
 turn_told true at Waits = []
 turn_told false at patience = []
+
+-- that memory was refused to the meter at this address, for the datagram that came to it last
+abbrev pub unserved_told : SocketAddr → Told
+unserved_told at = note (notes.UnservedAt (socket_port at))
 
 -- what is recorded of a stranger's datagram, and the turn behind it; it is counted where it isn't recorded
 abbrev pub stranger_told : Bool → Bool → SocketAddr → Patience → SocketAddr → List ℕ → List Told

@@ -1,7 +1,10 @@
 -- Public vocabulary: which files beside those of events and of metrics are their own, while they are made.
-use Rattle.std.specs.Prelude.{◌≡◌, ℕ, ◌≤◌, List, codes, length, take}
+use Rattle.std.specs.Prelude.{◌≡◌, ◌⊎◌, ℕ, ◌≤◌, List, codes, length, take}
 use Rattle.std.proofs.Common.{refl, sym, ap, ◌∙◌, arith}
 use Rattle.std.proofs.lemmas.List.{length-take, take_all}
+use Rattle.fw_disk.specs.declared.name.Name.TheVariants.{Main}
+use Rattle.fw_disk.specs.Disk.{Disk, absent}
+use Rattle.fw_disk.specs.Ours.{IsOurs}
 use Rattle.fw_host.specs.BegunCapture.{begins_again}
 
 -- a file of events that is begun has no byte
@@ -14,6 +17,10 @@ page_front = codes "# HELP dlmsfw_bo"
 -- what a cut making leaves of a page of metrics: in front its first bytes, as far as it goes
 abbrev pub IsPage : List ℕ → Type 0
 IsPage bytes = take 16 bytes ≡ take (length bytes) page_front
+
+-- a page may be put under FILE: nothing is there, or one is
+abbrev pub MayHavePage : Disk → Type 0
+MayHavePage disk = (disk.entry Main ≡ absent) ⊎ ((n : ℕ) × IsOurs IsPage disk Main n)
 
 -- ---- their laws: no bytes are ours, and the first bytes of what is ours
 

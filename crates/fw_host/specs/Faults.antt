@@ -1,17 +1,10 @@
 -- Public vocabulary: the fault that each error of this crate is to a command.
 use Rattle.fw_faults.specs.declared.fault.Fault.{Fault}
-use Rattle.fw_faults.specs.declared.fault.Fault.TheVariants.{BadList, BadSetup, CaptureFault, FactoryFault, ForeignCapture, OutOfMemory}
+use Rattle.fw_faults.specs.declared.fault.Fault.TheVariants.{BadSetup, CaptureFault, FactoryFault, ForeignCapture, OutOfMemory}
 use Rattle.fw_host.specs.declared.error.CaptureFileError.{CaptureFileError}
 use Rattle.fw_host.specs.declared.error.CaptureFileError.TheVariants as capture
-use Rattle.fw_host.specs.declared.error.ListError.{ListError}
-use Rattle.fw_host.specs.declared.error.ListError.TheVariants as list
 use Rattle.fw_host.specs.declared.error.NewStoreError.{NewStoreError}
 use Rattle.fw_host.specs.declared.error.NewStoreError.TheVariants as new_store
-
--- the fault that says why a text is no list of meters
-abbrev pub fault_of_list : ListError → Fault
-fault_of_list (list.BadList line) = BadList line
-fault_of_list list.OutOfMemory = OutOfMemory
 
 -- the fault that says why the file of a daemon's capture isn't gone on with
 abbrev pub fault_of_capture : CaptureFileError → Fault

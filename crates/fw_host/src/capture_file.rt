@@ -5,11 +5,11 @@ ghost use Rattle.fw_disk.specs.declared.name.Name.TheVariants.{Main};
 ghost use Rattle.fw_capture.specs.Spelling.{file_header, packet_bytes};
 ghost use Rattle.fw_capture.specs.View.{told_of};
 ghost use Rattle.fw_capture.specs.Whole.{IsWholeTo};
-ghost use Rattle.fw_host.specs.Captures.{IsForeign, StartsCapture};
+ghost use Rattle.fw_host.specs.Captures.{BeginsCapture, IsForeign};
 
 use crate::capture_making::new_capture;
 use crate::error::CaptureFileError;
-use fw_capture::{Captured, Content, Note, WholeError, file_header, whole_len};
+use fw_capture::{Captured, Content, WholeError, file_header, whole_len};
 use fw_disk::{Because, Cause, Name, SystemFolder, open};
 use fw_recording::{Sink, write_header, write_record};
 use std::alloc::{AllocError, Global};
@@ -22,8 +22,9 @@ use std::time::{SystemTime, UNIX_EPOCH};
 /// The bytes of the file header of a capture.
 pub(crate) const HEADER_SIZE: usize = 24;
 
-/// The file of a daemon's capture, under the lock, with a note of the start of the process at its end, where it stands. It is made where no
-/// file is there, as FILE.new, which is named FILE once the disk has its file header; and gone on with where one is.
+/// The file of a daemon's capture, under the lock, where it ends. It is made where no file is there, as FILE.new, which is named FILE once the
+/// disk has its file header; and gone on with where one is. What the process is has its notes later ([`put_start`](crate::put_start)), once its
+/// store or its book is open.
 ///
 /// Each record is appended by a call of its own, so a process that is killed leaves whole ones. A power cut or a full disk may leave less
 /// than a record at the end, and zeros. That is cut off, and the disk has it so before anything is appended.
@@ -34,7 +35,7 @@ pub(crate) const HEADER_SIZE: usize = 24;
 ///   link or no regular file, or has another name as well; or it isn't there, and another program's file is FILE.new. Or the system gives no
 ///   more memory.
 /// - `ForeignCapture`: the file is there, and isn't a capture that a daemon began, or its records have another fault. It is left as it is.
-pub fn open_capture<R: Files<File = File> + Clock>(
+pub fn open_capture<R: Files<File = File>>(
     rt: &R,
     alloc: Global,
     path: &str,
@@ -45,7 +46,7 @@ pub fn open_capture<R: Files<File = File> + Clock>(
         Err(Cause::Missing) => made(alloc, &mut folder)?,
         Err(cause) => return Err(refused(cause)),
     };
-    go_on(alloc, &mut file, now(rt))?;
+    go_on(alloc, &mut file)?;
     Ok(file)
 }
 
@@ -71,17 +72,13 @@ fn made<R: Files<File = File>>(
     }
 }
 
-/// Goes on with a capture: cuts off what is no whole record at its end, and appends the note of the start.
-fn go_on(
-    alloc: Global,
-    file: &mut File,
-    nanoseconds: u64,
-) -> Result<(), Because<CaptureFileError>> {
+/// Goes on with a capture: cuts off what is no whole record at its end. One that has no byte gets the file header.
+fn go_on(alloc: Global, file: &mut File) -> Result<(), Because<CaptureFileError>> {
     let mut buffer = [0; HEADER_SIZE];
     let count = read_front(file, &mut buffer).map_err(refused)?;
     keep_whole(alloc, file, &buffer[..count])?;
     go_to_end(file).map_err(refused)?;
-    start(alloc, file, nanoseconds, &buffer[..count])?;
+    put_front(alloc, file, &buffer[..count])?;
     Ok(())
 }
 
@@ -138,28 +135,24 @@ fn read_front(file: &File, buffer: &mut [u8]) -> Result<usize, Cause>
     Ok(count)
 }
 
-/// Puts the file header where the front of a capture has no byte, and the note of the start.
+/// Puts the file header where the front of a capture has no byte.
 ///
 /// # Errors
 ///
-/// - `CaptureFault`: the sink failed, or memory was refused, or it is the year 2106.
+/// - `CaptureFault`: the sink failed, or memory was refused.
 /// - `ForeignCapture`: the front is another one than the file header. Nothing was put.
-fn start<S: Sink>(
-    alloc: Global,
-    sink: &mut S,
-    nanoseconds: u64,
-    front: &[u8],
-) -> Result<(), CaptureFileError>
-    ensures written { OnOk result (StartsCapture S.takes front.now nanoseconds sink.old sink.new) }
+fn put_front<S: Sink>(alloc: Global, sink: &mut S, front: &[u8]) -> Result<(), CaptureFileError>
+    ensures written { OnOk result (BeginsCapture S.takes front.now sink.old sink.new) }
     ensures foreign { result ≡ Err CaptureFileError.ForeignCapture → (front.now ≢ []) × (front.now ≢ file_header) }
     ensures silent { result ≡ Err CaptureFileError.ForeignCapture → sink.new ≡ sink.old }
 {
     if front.is_empty() {
-        write_header(alloc, sink).map_err(|_| CaptureFileError::CaptureFault)?;
-    } else if !is_own(alloc, front).map_err(|_| CaptureFileError::CaptureFault)? {
+        return write_header(alloc, sink).map_err(|_| CaptureFileError::CaptureFault);
+    }
+    if !is_own(alloc, front).map_err(|_| CaptureFileError::CaptureFault)? {
         return Err(CaptureFileError::ForeignCapture);
     }
-    put_record(alloc, sink, nanoseconds, Content::Note(Note::Start))
+    Ok(())
 }
 
 /// Whether these bytes are the file header of a capture that is written.

@@ -2,14 +2,14 @@
 
 ghost use Rattle.std.specs.Prelude.{◌≡◌, ◌≤◌, ◌∷◌, IfOk, IfSome, IsErr, IsTrue, MatchBool, MatchOption, false, true, is_some, length, take};
 ghost use Rattle.fw_capture.specs.View.{datagram, endpoint_of};
-ghost use Rattle.fw_host.specs.Captures.{CapturesArrival, CapturesNoted};
+ghost use Rattle.fw_host.specs.Captures.{CapturesArrival, CapturesNoted, unserved_told};
 ghost use Rattle.fw_port.specs.Acts.{came, quiet, sent};
 
 use crate::port_below::PortBelow;
 use crate::recorder::Recorder;
 use crate::strangers::Strangers;
+use crate::synced_sink::SyncedSink;
 use fw_port::{Arrival, Closed, Patience, Port, UdpPort};
-use fw_recording::Sink;
 use std::alloc::Global;
 use std::net::SocketAddr;
 use std::rt::Clock;
@@ -19,14 +19,14 @@ use std::rt::Clock;
 ///
 /// Whether its sink fails isn't known, so it is not honest.
 #[derive(Drop)]
-pub struct CapturePort<'a, C: Clock, S: Sink + Drop, P: PortBelow = UdpPort> {
+pub struct CapturePort<'a, C: Clock, S: SyncedSink + Drop, P: PortBelow = UdpPort> {
     port: &'a mut P,
     recorder: Recorder<'a, C, S>,
     /// Whether the last receive brought a datagram.
     has_heard: bool,
 }
 
-impl<'a, C: Clock, S: Sink + Drop, P: PortBelow> CapturePort<'a, C, S, P> {
+impl<'a, C: Clock, S: SyncedSink + Drop, P: PortBelow> CapturePort<'a, C, S, P> {
     /// The port of a head end, which has this address.
     pub fn of_head(
         rt: &'a C,
@@ -94,7 +94,8 @@ impl<'a, C: Clock, S: Sink + Drop, P: PortBelow> CapturePort<'a, C, S, P> {
         self.port.faults()
     }
 
-    /// Receives the next datagram, and records it, or the turn that follows where none came. After a record that failed nothing is received.
+    /// Receives the next datagram, and records it, or the turn that follows where none came. What was recorded before is put on the disk first,
+    /// if that is due. After a record that failed nothing is received.
     pub(crate) fn receive_recorded(
         &mut self,
         patience: Patience,
@@ -113,10 +114,22 @@ impl<'a, C: Clock, S: Sink + Drop, P: PortBelow> CapturePort<'a, C, S, P> {
         if self.recorder.has_failed() {
             return Err(Closed);
         }
+        self.recorder.settle()?;
         let came = self.port.receive(patience, buffer)?;
         self.has_heard = came.is_some();
         self.recorder.put_arrival(patience, came, buffer)?;
         Ok(came)
+    }
+
+    /// Records that memory was refused for the datagram that came last. If that can't be recorded, the port is closed.
+    pub(crate) fn note_refused_memory(&mut self)
+        ensures recorded { self.new.recorder.failed ≡ false → CapturesNoted S.takes self.old.recorder.strangers.now.count
+            self.old.recorder.sink self.new.recorder.sink (unserved_told self.old.recorder.at) }
+    {
+        match self.recorder.put_unserved() {
+            Ok(()) => {}
+            Err(Closed) => {}
+        }
     }
 
     /// Records a datagram, and sends it then.

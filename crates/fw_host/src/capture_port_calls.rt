@@ -3,13 +3,13 @@
 use crate::capture_port::CapturePort;
 use crate::datagram_port::{ClosedBy, DatagramPort};
 use crate::port_below::PortBelow;
+use crate::synced_sink::SyncedSink;
 use fw_port::{Arrival, Closed, NoReport, Patience, Port};
-use fw_recording::Sink;
 use fw_sealport::{Links, WirePort};
 use std::net::SocketAddr;
 use std::rt::Clock;
 
-impl<'a, C: Clock, S: Sink + Drop, P: PortBelow> Port<NoReport> for CapturePort<'a, C, S, P> {
+impl<'a, C: Clock, S: SyncedSink + Drop, P: PortBelow> Port<NoReport> for CapturePort<'a, C, S, P> {
     ghost use Rattle.std.specs.Prelude.{false, [], ⊤};
 
     ghost honest = { λ _. false };
@@ -39,14 +39,14 @@ impl<'a, C: Clock, S: Sink + Drop, P: PortBelow> Port<NoReport> for CapturePort<
     }
 }
 
-impl<'a, C: Clock, S: Sink + Drop, P: PortBelow> WirePort for CapturePort<'a, C, S, P> {
+impl<'a, C: Clock, S: SyncedSink + Drop, P: PortBelow> WirePort for CapturePort<'a, C, S, P> {
     /// The capture has what is on the wire: the sealing.
     fn send_sealing(&mut self, to: SocketAddr, bytes: &[u8], _links: &Links) {
         self.send_recorded(to, bytes);
     }
 }
 
-impl<'a, C: Clock, S: Sink + Drop, P: PortBelow> DatagramPort for CapturePort<'a, C, S, P> {
+impl<'a, C: Clock, S: SyncedSink + Drop, P: PortBelow> DatagramPort for CapturePort<'a, C, S, P> {
     ghost use Rattle.std.specs.Prelude.{◌≡◌, false};
     ghost use Rattle.fw_capture.specs.View.{datagram, endpoint_of};
     ghost use Rattle.fw_host.specs.Captures.{CapturesArrival, CapturesNoted};
@@ -70,6 +70,10 @@ impl<'a, C: Clock, S: Sink + Drop, P: PortBelow> DatagramPort for CapturePort<'a
 
     fn send_datagram(&mut self, to: SocketAddr, bytes: &[u8]) {
         self.send_recorded(to, bytes);
+    }
+
+    fn note_unserved(&mut self) {
+        self.note_refused_memory();
     }
 
     fn closed_by(&self) -> ClosedBy {

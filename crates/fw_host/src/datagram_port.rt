@@ -54,6 +54,10 @@ pub trait DatagramPort: Port<NoReport> {
     fn send_datagram(&mut self, to: SocketAddr, bytes: &[u8])
         ensures { sends self.old to bytes.now self.new };
 
+    /// Memory was refused for the datagram that it received last, which is dropped.
+    fn note_unserved(&mut self)
+        ensures { Self.honest self.new ≡ Self.honest self.old };
+
     /// Why the port is closed, where it is.
     fn closed_by(&self) -> ClosedBy
         ensures { result ≡ closing self.now };

@@ -3,7 +3,7 @@
 ghost use Rattle.std.specs.Prelude.{◌≡◌};
 ghost use Rattle.fw_faults.specs.declared.fault.Fault.TheVariants.{BadSetup};
 ghost use Rattle.fw_host.specs.Captures.{IsOfCapture};
-ghost use Rattle.fw_host.specs.Faults.{fault_of_capture, fault_of_list, fault_of_new_store};
+ghost use Rattle.fw_host.specs.Faults.{fault_of_capture, fault_of_new_store};
 ghost use Rattle.fw_host.specs.Meters.{IsOfSetup};
 ghost use Rattle.fw_host.specs.declared.error.ListError.TheVariants as list;
 ghost use Rattle.fw_host.specs.declared.error.NewStoreError.TheVariants as new_store;
@@ -36,17 +36,6 @@ impl From<AllocError> for ListError {
 
     fn from(_error: AllocError) -> ListError {
         ListError::OutOfMemory
-    }
-}
-
-impl From<ListError> for Fault {
-    ghost from_gives = { λ error fault. fault ≡ fault_of_list error };
-
-    fn from(error: ListError) -> Fault {
-        match error {
-            ListError::BadList(number) => Fault::BadList(number),
-            ListError::OutOfMemory => Fault::OutOfMemory,
-        }
     }
 }
 

@@ -1,5 +1,8 @@
 //! The file of a head end's events.
 
+ghost use Rattle.std.specs.Prelude.{◌≡◌};
+ghost use Rattle.fw_disk.specs.declared.name.Name.TheVariants.{Main};
+
 use crate::capture_file::now;
 use crate::event_making::{FRONT, FRONT_LEN, new_events, try_new_events};
 use fw_disk::{Cause, Name, Reason, SystemFolder, open};
@@ -34,66 +37,60 @@ impl EventFile {
     ///
     /// Those of `open`.
     pub fn check<R: Files<File = File>>(rt: &R, path: &str) -> Result<(), Reason> {
-        match check_at(rt, path) {
-            Ok(()) => Ok(()),
-            Err(cause) => Err(cause.at(Name::Main)),
+        let mut folder = SystemFolder::of(rt, path).map_err(refused)?;
+        match open(&mut folder) {
+            Ok(file) => check_front(&file).map_err(refused),
+            Err(Cause::Missing) => try_new_events(&mut folder),
+            Err(cause) => Err(refused(cause)),
         }
     }
 
-    /// The file at this path. It is made if nothing is there, and else gone on with behind its last whole line: what a power cut left of
-    /// another is cut off.
+    /// The file at this path, and the rows of which it tells. It is made if nothing is there, and else gone on with behind its last whole
+    /// line: what a power cut left of another is cut off.
     ///
     /// # Errors
     ///
     /// Why the file can't be made, opened or read, or that it is another program's: it doesn't begin as one of events. It is left as it is.
+    /// With `Name::New` it is the file beside it, as which it is made.
     pub fn open<R: Files<File = File> + Clock>(
         rt: &R,
         alloc: Global,
         path: &str,
         head: HeadId,
-    ) -> Result<EventFile, Reason> {
-        match EventFile::open_at(rt, alloc, path, head) {
-            Ok(events) => Ok(events),
-            Err(cause) => Err(cause.at(Name::Main)),
-        }
-    }
-
-    /// The same, with the cause alone.
-    fn open_at<R: Files<File = File> + Clock>(
-        rt: &R,
-        alloc: Global,
-        path: &str,
-        head: HeadId,
-    ) -> Result<EventFile, Cause> {
-        let mut folder = SystemFolder::of(rt, path)?;
+    ) -> Result<(EventFile, ToldRows), Reason> {
+        let mut folder = SystemFolder::of(rt, path).map_err(refused)?;
         let file = match open(&mut folder) {
             Ok(file) => file,
             Err(Cause::Missing) => new_events(&mut folder)?,
-            Err(cause) => return Err(cause),
+            Err(cause) => return Err(refused(cause)),
         };
+        match EventFile::gone_on(rt, alloc, file, head) {
+            Ok(opened) => Ok(opened),
+            Err(cause) => Err(refused(cause)),
+        }
+    }
+
+    /// Goes on with a file behind its last whole line.
+    fn gone_on<C: Clock>(
+        rt: &C,
+        alloc: Global,
+        file: File,
+        head: HeadId,
+    ) -> Result<(EventFile, ToldRows), Cause> {
         check_front(&file)?;
-        let len = whole_len(alloc, &file)?;
+        let mut told = ToldRows::none(alloc, head);
+        let len = take_lines(alloc, &file, &mut told)?;
         file.set_len(len)?;
         file.sync_all()?;
-        Ok(EventFile {
+        let events = EventFile {
             alloc,
             file,
             head,
             len: Cell::new(len),
             is_unsynced: Cell::new(false),
             time: Cell::new(now(rt)),
-        })
-    }
-
-    /// The rows of which the file tells. It is read for that.
-    ///
-    /// # Errors
-    ///
-    /// Why it can't be read.
-    pub fn told_rows(&self) -> Result<ToldRows, Cause> {
-        let mut told = ToldRows::none(self.alloc, self.head);
-        take_lines(self.alloc, &self.file, &mut told)?;
-        Ok(told)
+        };
+        Ok((events, told))
     }
 
     /// The events that follow happen now, by the clock of the system.
@@ -136,14 +133,11 @@ impl EventFile {
     }
 }
 
-/// Checks that a file of events is at this path, or can be made there.
-fn check_at<R: Files<File = File>>(rt: &R, path: &str) -> Result<(), Cause> {
-    let mut folder = SystemFolder::of(rt, path)?;
-    match open(&mut folder) {
-        Ok(file) => check_front(&file),
-        Err(Cause::Missing) => try_new_events(&mut folder),
-        Err(cause) => Err(cause),
-    }
+/// Why a call of FILE is refused.
+fn refused(cause: Cause) -> Reason
+    ensures { result ≡ record { name = Main; cause = cause } }
+{
+    cause.at(Name::Main)
 }
 
 /// Checks that a file has no byte, or begins as one of events, as far as it goes.
@@ -159,8 +153,8 @@ fn check_front(file: &File) -> Result<(), Cause> {
     }
 }
 
-/// Where the last whole line of a file ends.
-fn whole_len(alloc: Global, file: &File) -> Result<u64, Cause> {
+/// Takes the whole lines of a file, and returns where the last one ends.
+fn take_lines(alloc: Global, file: &File, told: &mut ToldRows) -> Result<u64, Cause> {
     let mut reader = BufReader::new(alloc, from_start(file)?)?;
     let mut line = Vec::new(alloc);
     let mut len: u64 = 0;
@@ -169,24 +163,12 @@ fn whole_len(alloc: Global, file: &File) -> Result<u64, Cause> {
         if count == 0 {
             return Ok(len);
         }
-        len = len.saturating_add(count as u64);
-    }
-    Ok(len)
-}
-
-/// Takes the whole lines of a file.
-fn take_lines(alloc: Global, file: &File, told: &mut ToldRows) -> Result<(), Cause> {
-    let mut reader = BufReader::new(alloc, from_start(file)?)?;
-    let mut line = Vec::new(alloc);
-    for _ in 0..u64::MAX {
-        if read_line(&mut reader, &mut line)? == 0 {
-            return Ok(());
-        }
         if let Ok(text) = str::from_utf8(&line) {
             told.take(alloc, text)?;
         }
+        len = len.saturating_add(count as u64);
     }
-    Ok(())
+    Ok(len)
 }
 
 /// A file that is read from its first byte on.

@@ -4,7 +4,7 @@ ghost use Rattle.std.specs.Prelude.{◌≡◌, [], IsTrue, IfOk};
 ghost use Rattle.fw_disk.specs.declared.name.Name.TheVariants.{Main};
 ghost use Rattle.fw_disk.specs.Ours.{IsNamed};
 
-use fw_disk::{Cause, Folder, Kind, Name, abandon, begin, finish};
+use fw_disk::{Folder, Kind, Name, Reason, abandon, begin, finish};
 
 /// How many bytes a file of events begins with that others don't.
 pub(crate) const FRONT_LEN: usize = 26;
@@ -40,17 +40,20 @@ impl Kind for BegunEvents {
 ///
 /// # Errors
 ///
-/// `Exists` if something is FILE; `NotAlone` and `Foreign` if another program's file is FILE.new; `Locked` if another process has it; and
-/// those of the system. What was begun is taken away then.
-pub(crate) fn new_events<F: Folder>(folder: &mut F) -> Result<F::File, Cause>
+/// `Exists` if something is FILE; of FILE.new `NotAlone` and `Foreign` if it is another program's file, and `Locked` if another process has
+/// it; and those of the system. What was begun is taken away then.
+pub(crate) fn new_events<F: Folder>(folder: &mut F) -> Result<F::File, Reason>
     ensures named { IsTrue (F.seen folder.old).honest → IfOk result (λ file. IsNamed Main (F.number file) [] (F.seen folder.new).disk) }
 {
-    let file = begin(folder, Name::New, &BegunEvents)?;
+    let file = match begin(folder, Name::New, &BegunEvents) {
+        Ok(file) => file,
+        Err(cause) => return Err(cause.at(Name::New)),
+    };
     match finish(folder, &file) {
         Ok(()) => Ok(file),
         Err(error) => {
             abandon(folder, Name::New, &file);
-            Err(error.cause())
+            Err(error.cause().at(Name::Main))
         }
     }
 }
@@ -60,8 +63,12 @@ pub(crate) fn new_events<F: Folder>(folder: &mut F) -> Result<F::File, Cause>
 /// # Errors
 ///
 /// Those of `new_events`, but for `Exists`.
-pub(crate) fn try_new_events<F: Folder>(folder: &mut F) -> Result<(), Cause> {
-    let file = begin(folder, Name::New, &BegunEvents)?;
-    abandon(folder, Name::New, &file);
-    Ok(())
+pub(crate) fn try_new_events<F: Folder>(folder: &mut F) -> Result<(), Reason> {
+    match begin(folder, Name::New, &BegunEvents) {
+        Ok(file) => {
+            abandon(folder, Name::New, &file);
+            Ok(())
+        }
+        Err(cause) => Err(cause.at(Name::New)),
+    }
 }

@@ -12,7 +12,7 @@ ghost use Rattle.fw_host.specs.Meters.{IsOfStore, default_factory};
 use crate::error::NewStoreError;
 use crate::files::{folder_of, is_missing};
 use fw_disk::{Because, Folder};
-use fw_faults::{Fault, Reads, read_input};
+use fw_faults::{Fault, InputError, Reads, read_input};
 use fw_meter::MeterCore;
 use fw_store::{FileStore, FileStoreError, HeaderVersion, ImageStore, is_setup};
 use std::alloc::Global;
@@ -212,8 +212,8 @@ fn bytes_of_file<F: Files<File = File>>(
     match read_input(alloc, &mut file, &mut reads) {
         Ok(bytes) => Ok(bytes),
         // No meter takes an image of more than 64 MiB.
-        Err(Fault::TooMuchInput) => Err(NewStoreError::BadSetup),
-        Err(Fault::OutOfMemory) => Err(NewStoreError::OutOfMemory),
-        Err(_) => Err(NewStoreError::FactoryFault),
+        Err(InputError::TooMuchInput) => Err(NewStoreError::BadSetup),
+        Err(InputError::OutOfMemory) => Err(NewStoreError::OutOfMemory),
+        Err(InputError::Input) => Err(NewStoreError::FactoryFault),
     }
 }

@@ -1,8 +1,11 @@
 //! The file of a head end's metrics, which is replaced whole.
 
+ghost use Rattle.std.specs.Prelude.{IsTrue, OnOk};
+ghost use Rattle.fw_host.specs.Events.{MayHavePage};
+
 use crate::capture_making::begins_as;
 use fw_disk::{
-    Cause, FRONT_SIZE, Folder, Kind, Name, SystemFolder, abandon, begin, fill, finish,
+    Cause, FRONT_SIZE, Folder, Kind, Name, Reason, SystemFolder, abandon, begin, fill, finish,
     open_companion, replace,
 };
 use fw_events::{Figures, metrics_page};
@@ -68,6 +71,18 @@ impl<'a, R: Files<File = File>> MetricsFile<'a, R> {
         }
     }
 
+    /// Whether a page can be put in the place of the one that is there, or made if nothing is there. None is.
+    ///
+    /// # Errors
+    ///
+    /// Those of `write`. With `Name::New` it is the file beside it, as which a page is made.
+    pub fn check(&self) -> Result<(), Reason> {
+        match SystemFolder::of(self.rt, self.path) {
+            Ok(mut folder) => try_page(&mut folder),
+            Err(cause) => Err(cause.at(Name::Main)),
+        }
+    }
+
     /// Puts a page in the place of the one that is there: it is made as FILE.new, and named FILE once the disk has it.
     ///
     /// # Errors
@@ -77,6 +92,27 @@ impl<'a, R: Files<File = File>> MetricsFile<'a, R> {
         let page = metrics_page(self.alloc, self.head, self.book, campaigns, figures)?;
         let mut folder = SystemFolder::of(self.rt, self.path)?;
         put(&mut folder, page.as_bytes())
+    }
+}
+
+/// Whether a page can be put in the place of FILE: that is a page, or nothing, and one is begun as FILE.new, and taken away again.
+fn try_page<F: Folder>(folder: &mut F) -> Result<(), Reason>
+    ensures page { IsTrue (F.seen folder.old).honest → OnOk result (MayHavePage (F.seen folder.old).disk) }
+{
+    match open_companion(folder, Name::Main, &Page) {
+        Ok(_page) => try_new_page(folder),
+        Err(cause) => Err(cause.at(Name::Main)),
+    }
+}
+
+/// Whether FILE.new can be begun, which is taken away again.
+fn try_new_page<F: Folder>(folder: &mut F) -> Result<(), Reason> {
+    match begin(folder, Name::New, &Page) {
+        Ok(file) => {
+            abandon(folder, Name::New, &file);
+            Ok(())
+        }
+        Err(cause) => Err(cause.at(Name::New)),
     }
 }
 

@@ -6,15 +6,15 @@ ghost use Rattle.fw_host.specs.Captures.{IsRecorded};
 ghost use Rattle.fw_port.specs.Acts.{sent};
 
 use crate::recorder::Recorder;
+use crate::synced_sink::SyncedSink;
 use fw_port::{NoReport, Port, UdpPort};
-use fw_recording::Sink;
 use std::net::SocketAddr;
 use std::rt::Clock;
 
 /// The port below a capture. It sends what the capture has: of such a port it isn't known what else it may send.
 pub trait PortBelow: Port<NoReport> {
     /// Sends a datagram of which the recorder has put the record last, if it has a capture.
-    fn send_recorded<C: Clock, S: Sink + Drop>(
+    fn send_recorded<C: Clock, S: SyncedSink + Drop>(
         &mut self,
         to: SocketAddr,
         bytes: &[u8],
@@ -25,7 +25,7 @@ pub trait PortBelow: Port<NoReport> {
 }
 
 impl PortBelow for UdpPort {
-    fn send_recorded<C: Clock, S: Sink + Drop>(
+    fn send_recorded<C: Clock, S: SyncedSink + Drop>(
         &mut self,
         to: SocketAddr,
         bytes: &[u8],

@@ -2,13 +2,13 @@
 
 ghost use Rattle.std.specs.Prelude.{◌≡◌, ◌≤◌, IfSome, IsTrue, OnErr, OnOk, false, length};
 ghost use Rattle.fw_capture.specs.View.{datagram, endpoint_of, told_of};
-ghost use Rattle.fw_host.specs.Captures.{Captures, CapturesAll, CapturesArrival, CapturesNoted, IsRecorded, count_after, stranger_count, stranger_told, turn_told};
+ghost use Rattle.fw_host.specs.Captures.{Captures, CapturesAll, CapturesArrival, CapturesNoted, IsRecorded, count_after, stranger_count, stranger_told, turn_told, unserved_told};
 
 use crate::capture_file::{now, put_record};
 use crate::strangers::Strangers;
+use crate::synced_sink::SyncedSink;
 use fw_capture::{Content, Note};
 use fw_port::{Arrival, Closed, Patience};
-use fw_recording::Sink;
 use std::alloc::Global;
 use std::net::SocketAddr;
 use std::rt::Clock;
@@ -17,7 +17,7 @@ use std::rt::Clock;
 /// verification has a note. A datagram of a stranger has no record, unless those are asked for: before the next record a note says how many
 /// came.
 #[derive(Drop)]
-pub struct Recorder<'a, C: Clock, S: Sink + Drop> {
+pub struct Recorder<'a, C: Clock, S: SyncedSink + Drop> {
     rt: &'a C,
     alloc: Global,
     /// The address that the port has.
@@ -30,7 +30,7 @@ pub struct Recorder<'a, C: Clock, S: Sink + Drop> {
     failed: bool,
 }
 
-impl<'a, C: Clock, S: Sink + Drop> Recorder<'a, C, S> {
+impl<'a, C: Clock, S: SyncedSink + Drop> Recorder<'a, C, S> {
     /// The recorder of a port with this address, with turns or without. None has failed yet.
     pub(crate) fn new(
         rt: &'a C,
@@ -63,6 +63,23 @@ impl<'a, C: Clock, S: Sink + Drop> Recorder<'a, C, S> {
         ensures { result ≡ self.now.failed }
     {
         self.failed
+    }
+
+    /// Puts what was recorded on the disk, if that is due.
+    pub(crate) fn settle(&mut self) -> Result<(), Closed>
+        ensures same { OnOk result (self.new ≡ self.old) }
+        ensures failed { OnErr result (IsTrue self.new.failed) }
+    {
+        let Some(sink) = &self.sink else {
+            return Ok(());
+        };
+        match sink.settle(self.rt) {
+            Ok(()) => Ok(()),
+            Err(_) => {
+                self.failed = true;
+                Err(Closed)
+            }
+        }
     }
 
     /// Puts a record into the capture, if there is one.
@@ -175,6 +192,16 @@ impl<'a, C: Clock, S: Sink + Drop> Recorder<'a, C, S> {
             }),
             None => self.put_turn(patience),
         }
+    }
+
+    /// Puts the note that memory was refused for the datagram that came last.
+    pub(crate) fn put_unserved(&mut self) -> Result<(), Closed>
+        ensures put { OnOk result (CapturesNoted S.takes self.old.strangers.now.count self.old.sink self.new.sink
+            (unserved_told self.old.at)) }
+        ensures failed { OnErr result (IsTrue self.new.failed) }
+    {
+        let port = self.at.port();
+        self.put(Content::Note(Note::UnservedAt(port)))
     }
 
     /// Puts the record of a datagram that is sent next.

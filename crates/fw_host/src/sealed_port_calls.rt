@@ -32,6 +32,9 @@ impl<P: WirePort + DatagramPort + Drop, D: JournalDevice + Drop> DatagramPort fo
         self.send_sealed(to, bytes);
     }
 
+    /// The capture below has what is on the wire, and no note of this: nobody else opens what was sealed.
+    fn note_unserved(&mut self) {}
+
     fn closed_by(&self) -> ClosedBy {
         match self.fault() {
             Some(error) => ClosedBy::Counter(error),

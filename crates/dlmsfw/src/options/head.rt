@@ -65,9 +65,9 @@ of what is sent are used, and --new-counter makes it: for keys that were never u
 FILE. One process at a time has it, so no two head ends seal with one KEYS. With --strict one block goes to a
 meter at a time, whatever --width is.
 
-A file is made once all is judged: LIST, the image, KEYS, the address, KEYS.counter, and what is cancelled
-and opened. CAPTURE comes first then, a new KEYS.counter next, and a new FILE last. Of a FILE that is
-there --open is judged once --cancel is done.
+A file is made once all is judged: LIST, the image, KEYS, the address, KEYS.counter, EVENTS, METRICS, and what
+is cancelled and opened. CAPTURE comes first then, a new KEYS.counter next, then a new FILE, and EVENTS and
+METRICS last. Of a FILE that is there --open is judged once --cancel is done.
 
 A row is asked when nothing of it is outstanding, or after four times its last round trip, which is
 --resend at first and at least; a quarter longer after each time in which nothing at all came from
@@ -110,13 +110,15 @@ in a line of its own, as `row 7 1 3 no progress: verify 2, status 1`, and rests,
 
 With --events EVENTS each of these lines but the first has an event in EVENTS, an object of JSON on a line,
 and so have the start, the campaigns that it goes on with, a row that gets nowhere, how far it is, each
-minute, and a fault that ends it. A row has its reason there. Rows of FILE that ended without an event get
-one at the start, so after a kill none is missing, and none is told twice. EVENTS is made if it isn't there,
-and goes on behind its last whole line. An event that can't be written is lost; that of a row comes with the
-next start.
+minute, and a fault that ends it while it leads. A row has its reason there. Rows of FILE that ended without
+an event get one at the start, so after a kill none is missing, and none is told twice. EVENTS is made if it
+isn't there, and goes on behind its last whole line. An event that can't be written is lost; that of a row
+comes with the next start. No other program may cut EVENTS or write to it meanwhile. It is put away while no
+head end runs: the EVENTS that the next one makes has an event for each row of FILE that ended.
 With --metrics METRICS a page in Prometheus' text format is in METRICS, as node_exporter's textfile collector
-reads it: rows by campaign and state, datagrams each way, resends, strangers, and failures of the socket. It
-is replaced whole, by way of METRICS.new. A file that is neither is left as it is, and is Output.
+reads it if its name ends with .prom: rows by campaign and state, datagrams each way, resends, strangers, and
+failures of the socket. It is replaced whole, by way of METRICS.new. A file that is neither is left as it is,
+and is Output.
 
 Example, in two terminals, an image for the meter at port 4059:
 
@@ -176,17 +178,18 @@ Exit status:
        MeterBusy       --open: a meter of LIST is live in another campaign
        NoSuchCampaign  --cancel: the book has no campaign of a serial number that is given
        NotLive         --cancel: none of its rows is live
-       TooManyFailed N N rows of the waves before the next one failed, more than --max-failed allows
        CaptureFault    CAPTURE can't be made, opened or written; `meter --help` has the causes
        ForeignCapture  CAPTURE is there, and isn't a capture that a meter or a head end began, or a
                        packet before its end is damaged
        Output          the first line can't be written to standard output, or EVENTS or METRICS can't be
-                       made, opened or written
+                       made, opened, read or written
        OutOfMemory     the system gives no more memory
      Of a row whose end the disk doesn't have nothing was printed.
   2  a wrong command line: standard error says what is wrong
   4  no row is live, and in this run a row failed, as its line says
-  5  some rows are live whose meters aren't in LIST, as standard error said, and no other row is";
+  5  some rows are live whose meters aren't in LIST, as standard error said, and no other row is
+  6  TooManyFailed N, told as a fault is: N rows of the waves before the next one failed, more than
+     --max-failed allows. The next rows are live, and another start alone changes nothing";
 
 /// The command and its options.
 const MANUAL: &Manual = &Manual {

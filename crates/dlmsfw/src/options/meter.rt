@@ -55,10 +55,11 @@ new meter is made with. CAPTURE comes first then, a new KEYS.counter next, and e
 With --capture CAPTURE all that is received and sent is appended to CAPTURE as pcap, which Wireshark and
 `trace` read: each datagram before it is handled or sent, and so its reply isn't sent where CAPTURE can't
 be written. If no such file is there, it is made. One that is there must be such a capture, and what is no
-whole packet at its end is cut off, as a power cut or a full disk leaves it. The start of the process
-is a packet of its own, and so is each turn of a verification. Of datagrams from addresses that may not
-ask just their number is a packet, before the next one, unless --capture-strangers is given. A process
-that is killed leaves whole packets. One process at a time has a CAPTURE.
+whole packet at its end is cut off, as a power cut or a full disk leaves it. The start of the process is
+a packet of its own, once each FILE is open, and so is each address of --head behind it, and each turn of
+a verification. Of datagrams from addresses that may not ask just their number is a packet, before the
+next one, unless --capture-strangers is given. A process that is killed leaves whole packets. A power cut
+may take those of the last two seconds. One process at a time has a CAPTURE.
 
 Standard output gets these lines, each at once, of which one that can't be written is lost, except for
 the first:

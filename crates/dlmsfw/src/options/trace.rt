@@ -20,11 +20,14 @@ and ports that it came from and went to, and what it says. A request is for a me
 else for a head end. One for what no meter of dlmsfw has is told by class, instance and attribute, as
 `get class 3 1-0:1.8.0.255 attribute 2`, and so is one with a parameter of another shape. One that can't
 be read is `? (N bytes), FAULT`: its leftmost fault, of the wrapper, of the APDU or of a Data in it, as
-`APDU Truncated`. A note of dlmsfw has a line too: `start` where its process started, `turn PORT` where
-the meter of that port took a turn of a verification, as older captures have it `turn`, or `strangers N`:
-so many datagrams came from strangers since the packet before, and aren't there. Other packets are passed
-over: fragments, and those that aren't UDP over IP. The capture may be of any length: one packet is in
-memory at a time, and its line is written before the next one is read. So
+`APDU Truncated`. A note of dlmsfw has a line too. `start meter count K heads N` is where a process of
+meters started, K of --count, and 0 without it; N addresses may ask them, or any if N is 0, and each has
+`may ask ADDR:PORT` behind it. `start head H` is where head end H started; older captures have `start`
+for both. `turn PORT` is where the meter of that port took a turn of a verification, as older captures
+have it `turn`. `unserved PORT`: memory was refused to the meter of that port for the datagram before.
+`strangers N`: so many datagrams came from strangers since the packet before, and aren't there. Other
+packets are passed over: fragments, and those that aren't UDP over IP. The capture may be of any length:
+one packet is in memory at a time, and its line is written before the next one is read. So
 `tcpdump -U -w - udp port 4059 | ./dlmsfw trace` tells what goes over the wire as it goes.
 
 With --times each line begins with the time of its packet, as `2026-11-30T08:22:12.000007Z`: RFC 3339, in

@@ -12,8 +12,8 @@ loop-at-init g c none = subst (λ (meters : List Audited). AllZip (FitsAs c.args
 
 pub loop-at-preserved : goal.loop-at-preserved
 loop-at-preserved g c =
-    counted c.args.given.now c.args.subjects.now c.loop-at.at c.index-subjects-at.result c.in_ok-verdict.verdict c.loop-at.tally c.count.new.self
-    (omega (arith, c.loop-at-test.true)) c.index-subjects-at.is c.in_ok-verdict.ensures c.in_ok-count.ensures c.loop-at.invariant
+    counted c.args.given.now c.args.subjects.now c.loop-at.at c.index-subjects-at.result c.loop-at.tally c.count_meter.new.tally
+    (omega (arith, c.loop-at-test.true)) c.index-subjects-at.is c.in_ok-count_meter.ensures c.loop-at.invariant
 
 pub returns : goal.returns
 returns g c none =

@@ -3,8 +3,9 @@ use Rattle.std.proofs.lemmas.Result.{IfOk-weaker}
 use Rattle.std.specs.declared.net.socket_addr.SocketAddr.{SocketAddr}
 use Rattle.fw_audit.specs.Log.{log_of}
 use Rattle.fw_audit.specs.Stands.{IsMeterLog}
+use Rattle.fw_evidence.specs.declared.site.Side.TheVariants as sides
 use Rattle.fw_evidence.specs.declared.site.Site.{Site}
-use Rattle.fw_image.specs.Meter.{Image, reopened}
+use Rattle.fw_image.specs.Meter.{reopened}
 use Rattle.fw_auditor.specs.Private.{HasFit, IsCompared, IsSiteOf, others_of}
 use Rattle.fw_auditor.specs.declared.list.Subject.{Subject}
 use Rattle.fw_auditor.specs.declared.verdict.Verdict.{Verdict}
@@ -21,11 +22,10 @@ returns-in-Ok c =
     let found = c.in-Ok.found in
     let log = log_of found.log.items.items in
     let whole = c.whole_part-whole.result.now in
-    let site : Site = record { at = subject.address; others = c.deref-2.result } in
+    let site : Site = record { side = sides.Meter; at = subject.address; others = c.deref-2.result; heads = c.deref-3.result } in
     let others = c.deref-2.ensures.value ∙ c.in_ok-others.ensures ∙ ap (λ (subjects : List Subject). others_of subjects subject) c.deref.ensures.value in
-    let own : IsSiteOf given subject site = record { at = refl; others = others } in
+    let own : IsSiteOf given subject site = record { side = refl; at = refl; heads = c.deref-3.ensures.value; others = others } in
     let is = subst (λ (heads : List SocketAddr). IsMeterLog heads (reopened begin) log found.images.items end) c.deref-3.ensures.value c.in-Ok.ensures.is in
-    IfOk-weaker c.append_switches.result (λ (v : Verdict). IsCompared given subject c.deref-in-Ok.result.now v) (λ (v : Verdict). HasFit given subject begin capture end v)
-    (λ v compared. fits_by given subject begin capture end log found.log.marks.items found.images.items site whole v own c.whole_part-whole.ensures c.in-Ok.ensures.log is
-    (subst (λ (images : List Image). IsCompared given subject images v) c.deref-in-Ok.ensures.value compared))
-    c.append_switches.ensures
+    IfOk-weaker c.append_fitting.result (λ (v : Verdict). IsCompared given subject found.log found.images.items v) (λ (v : Verdict). HasFit given subject begin capture end v)
+    (λ v compared. fits_by given subject begin capture end found.log found.log.marks.items found.images.items site whole v own c.whole_part-whole.ensures c.in-Ok.ensures.log is compared)
+    c.append_fitting.ensures

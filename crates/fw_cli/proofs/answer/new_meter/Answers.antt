@@ -4,7 +4,7 @@ use Rattle.fw_store.specs.Memory.{device_of, capacity_of, is_sound}
 use Rattle.fw_image.specs.Fresh.{fresh_meter}
 use Rattle.fw_store.specs.declared.version.HeaderVersion.TheVariants.{Two}
 use Rattle.std.proofs.lemmas.Result.{err_from_is_err_and}
-use Rattle.fw_faults.specs.declared.fault.Fault.TheVariants.{BadSetup}
+use Rattle.fw_store.specs.declared.error.SetupError.TheVariants.{BadSetup}
 use Rattle.fw_cli.proofs.NewStores.{holds_new}
 use Rattle.fw_cli.proofs.answer.new_meter.Goals as goal
 

@@ -17,14 +17,12 @@ returns-clause-opening g c =
 pub returns-in_err-list-clause-asked : goal.returns-in_err-list-clause-asked
 returns-in_err-list-clause-asked g c =
     let passed = err_from_is_err_and c.from_residual.result c.from_residual.ensures.1 in
-    let same : passed.0 ≡ c.in_err-list.field-0.0 = cc passed.2 in
-    passed_on c.from_residual.result (IsAskedFor c.args.options.now) passed.0 _ passed.1 same (list_is_asked c.args.options.now _ c.in_err-list.ensures.faults)
+    passed_on c.from_residual.result (IsAskedFor c.args.options.now) passed.0 _ passed.1 passed.2 (list_is_asked c.args.options.now _)
 
 pub returns-in_err-list-clause-faults : goal.returns-in_err-list-clause-faults
 returns-in_err-list-clause-faults g c =
     let passed = err_from_is_err_and c.from_residual.result c.from_residual.ensures.1 in
-    let same : passed.0 ≡ c.in_err-list.field-0.0 = cc passed.2 in
-    passed_on c.from_residual.result IsOfHeadSetup passed.0 _ passed.1 same (list_in_setup _ c.in_err-list.ensures.faults)
+    passed_on c.from_residual.result IsOfHeadSetup passed.0 _ passed.1 passed.2 (list_in_setup _)
 
 pub returns-in_err-opened-clause-asked : goal.returns-in_err-opened-clause-asked
 returns-in_err-opened-clause-asked g c =

@@ -1,44 +1,37 @@
-use Rattle.std.proofs.Common.{◌≡◌, ◌∙◌, ap, Err}
-use Rattle.std.proofs.lemmas.Result.{IfErr-weaker, IfOk-weaker, err_from_is_err_and}
-use Rattle.fw_cli.specs.Scripts.{MakesNoneFor}
-use Rattle.fw_cli.proofs.HeadLeading.{passed_on}
+use Rattle.std.proofs.Common.{◌≡◌, ◌∙◌, ap, Err, refl}
+use Rattle.std.proofs.lemmas.Result.{err_from_is_err_and}
+use Rattle.fw_faults.specs.declared.fault.Fault.TheVariants as fault
+use Rattle.fw_cli.specs.Scripts.{MakesNoneFor, fault_of_live}
 use Rattle.fw_cli.proofs.Rehearsed.{uncaptured, untold, writes}
-use Rattle.fw_cli.proofs.Scripted.{unread, unwritten}
+use Rattle.fw_cli.proofs.Scripted.{capture_memory, ends_as, of_capture_error, of_script_error, script_line, script_memory, unread, unwritten}
 use Rattle.fw_cli.proofs.live.run_live.Goals as goal
 
-pub returns-clause-ok : goal.returns-clause-ok
-returns-clause-ok g c =
+pub returns-in-Ok-clause-ok : goal.returns-in-Ok-clause-ok
+returns-in-Ok-clause-ok g c =
     let script = c.in_ok-setup.field-0 in
-    IfOk-weaker c.write_text.result _ _
-    (λ done written. writes c.args.options.now.trace c.args.options.now.rounds c.args.options.now.workers _ _ _ _ _ _ script.setup script.events.items c.in_ok-told.told.world _
-    c.in_ok-setup.ensures.ok (rw c.deref.ensures.value at c.in_ok-told.ensures.ok) (rw c.sent.ensures.sent at c.in_ok-write_capture.ensures.written) written)
-    (rw c.as_str.ensures.value at c.write_text.ensures.written)
-
-pub returns-clause-ends : goal.returns-clause-ends
-returns-clause-ends g c =
-    IfErr-weaker c.write_text.result _ _ (λ f output. unwritten (MakesNoneFor c.args.options.now.workers) _ _ _ _ _ _ c.in_ok-setup.ensures.ok.input f c.in_ok-setup.ensures.ok.read output) c.write_text.ensures.faults
+    writes c.args.options.now.trace c.args.options.now.rounds c.args.options.now.workers _ _ _ _ _ _ script.setup script.events.items c.in_ok-told.told.world _
+    c.in_ok-setup.ensures.ok (rw c.deref.ensures.value at c.in_ok-told.ensures.ok) (rw c.sent.ensures.sent at c.in_ok-write_capture.ensures.written)
+    (rw c.as_str.ensures.value at c.in-Ok.ensures.written)
 
 pub returns-in_err-setup-clause-ends : goal.returns-in_err-setup-clause-ends
 returns-in_err-setup-clause-ends g c =
     let passed = err_from_is_err_and c.from_residual.result c.from_residual.ensures.1 in
-    let same : passed.0 ≡ c.in_err-setup.field-0.0 = cc passed.2 in
-    passed_on c.from_residual.result _ passed.0 _ passed.1 same
-    (unread (MakesNoneFor c.args.options.now.workers) _ _ _ _ _ (λ number e. c.script_from.ensures.bad_line number (c.in_err-setup.was ∙ ap Err e))
-    (λ e. c.script_from.ensures.memory (c.in_err-setup.was ∙ ap Err e)) c.in_err-setup.ensures.reading c.in_err-setup.ensures.faults)
+    ends_as c.from_residual.result _ _ _ _ _ _ _ _ _ passed.0 _ passed.1 passed.2
+    (unread (MakesNoneFor c.args.options.now.workers) _ _ _ _ _ (λ number e. c.script_from.ensures.bad_line number (c.in_err-setup.was ∙ ap Err (script_line _ number e)))
+    (λ e. c.script_from.ensures.memory (c.in_err-setup.was ∙ ap Err (script_memory _ e))) c.in_err-setup.ensures.reading (of_script_error _))
 
 pub returns-in_err-told-clause-ends : goal.returns-in_err-told-clause-ends
 returns-in_err-told-clause-ends g c =
     let script = c.in_ok-setup.field-0 in
     let passed = err_from_is_err_and c.from_residual-in_err-told.result c.from_residual-in_err-told.ensures.1 in
     let same : passed.0 ≡ c.in_err-told.field-0.0 = cc passed.2 in
-    passed_on c.from_residual-in_err-told.result _ passed.0 _ passed.1 same
+    ends_as c.from_residual-in_err-told.result _ _ _ _ _ _ _ _ _ passed.0 _ passed.1 (ap fault_of_live same)
     (untold c.args.options.now.workers _ _ _ _ script.setup script.events.items _ c.in_ok-setup.ensures.ok (rw c.deref.ensures.value at c.in_err-told.ensures.unreported) c.in_err-told.ensures.faults)
 
 pub returns-in_err-write_capture-clause-ends : goal.returns-in_err-write_capture-clause-ends
 returns-in_err-write_capture-clause-ends g c =
     let script = c.in_ok-setup.field-0 in
     let passed = err_from_is_err_and c.from_residual-in_err-write_capture.result c.from_residual-in_err-write_capture.ensures.1 in
-    let same : passed.0 ≡ c.in_err-write_capture.field-0.0 = cc passed.2 in
-    passed_on c.from_residual-in_err-write_capture.result _ passed.0 _ passed.1 same
+    ends_as c.from_residual-in_err-write_capture.result _ _ _ _ _ _ _ _ _ passed.0 _ passed.1 passed.2
     (uncaptured c.args.options.now.workers _ _ _ _ _ script.setup script.events.items _ c.in_ok-setup.ensures.ok c.in_ok-told.ensures.made c.in_err-write_capture.ensures.asked
-    (λ e. c.write_capture.ensures.silent (c.in_err-write_capture.was ∙ ap Err e)) c.in_err-write_capture.ensures.faults)
+    (λ e. c.write_capture.ensures.silent (c.in_err-write_capture.was ∙ ap Err (capture_memory _ e))) (of_capture_error _))

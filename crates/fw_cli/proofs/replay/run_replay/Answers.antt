@@ -2,17 +2,16 @@ use Rattle.std.proofs.Common.{◌≡◌, ◌∙◌, ap, Err, inl, inr, subst, sy
 use Rattle.std.proofs.KnownBytes.{Keeps-refl}
 use Rattle.std.proofs.lemmas.Result.{IfErr-weaker, err_from_is_err_and}
 use Rattle.fw_cli.specs.Replaying.{HasGoodFates, MakesNone}
-use Rattle.fw_cli.proofs.HeadLeading.{passed_on}
-use Rattle.fw_cli.proofs.Scripted.{unbegun, wants_more}
+use Rattle.fw_cli.specs.Scripts.{fault_of_replay}
+use Rattle.fw_cli.proofs.Scripted.{ends_as, fates_memory, of_fates_error, unbegun, wants_more}
 use Rattle.fw_cli.proofs.replay.run_replay.Goals as goal
 
 pub returns-in_err-air_of-in-Some-clause-ends : goal.returns-in_err-air_of-in-Some-clause-ends
 returns-in_err-air_of-in-Some-clause-ends g c =
     let passed = err_from_is_err_and c.from_residual.result c.from_residual.ensures.1 in
-    let same : passed.0 ≡ c.in_err-air_of-in-Some.field-0.0 = cc passed.2 in
-    passed_on c.from_residual.result _ passed.0 _ passed.1 same
-    (unbegun _ MakesNone _ _ _ _ (λ e. inl (subst HasGoodFates (sym c.in-Some.is) (c.air_of.ensures.memory (c.in_err-air_of-in-Some.was ∙ ap Err e)), Keeps-refl _)) c.in_err-air_of-in-Some.ensures.faults)
+    ends_as c.from_residual.result _ _ _ _ _ _ _ _ _ passed.0 _ passed.1 passed.2.0
+    (unbegun _ MakesNone _ _ _ _ (λ e. inl (subst HasGoodFates (sym c.in-Some.is) (c.air_of.ensures.memory (c.in_err-air_of-in-Some.was ∙ ap Err (fates_memory _ e))), Keeps-refl _)) (of_fates_error _))
 
 pub returns-clause-ends : goal.returns-clause-ends
 returns-clause-ends g c =
-    IfErr-weaker c.replay_from.result _ _ (λ f ends. wants_more _ _ _ _ _ _ _ _ _ f (λ wants. inr wants) ends) c.replay_from.ensures.ends
+    IfErr-weaker c.replay_from.result _ _ (λ e ends. wants_more _ _ _ _ _ _ _ _ _ (fault_of_replay e) (λ wants. inr wants) ends) c.replay_from.ensures.ends

@@ -1,11 +1,17 @@
-use Rattle.std.proofs.Common.{◌≡◌, ◌++◌, ◌∙◌, ℕ, List, [], Option, Some, ap, inr, subst}
+use Rattle.std.proofs.Common.{◌≡◌, ◌++◌, ◌∙◌, ℕ, List, [], Option, Some, None, ap, inr, refl, subst}
+use Rattle.std.specs.Prelude.{◌≢◌}
+use Rattle.std.proofs.lemmas.Result.{err_from_is_err_and}
 use Rattle.fw_book.specs.Contents.{Contents}
 use Rattle.fw_book.specs.Notes.{Known}
 use Rattle.fw_kept.specs.Kept.{HasNotes, IsReadAs}
+use Rattle.fw_kept.specs.declared.error.OpenError.{OpenError}
+use Rattle.fw_kept.specs.declared.error.OpenError.TheVariants as opening
 use Rattle.fw_rows.specs.Noted.{Noted, noted_of_book}
 use Rattle.fw_status.specs.Campaigns.{campaigns_of}
 use Rattle.fw_status.specs.declared.campaign.CampaignStatus.{CampaignStatus}
-use Rattle.fw_cli.specs.Heads.{HasStatus}
+use Rattle.fw_cli.specs.Heads.{HasStatus, SaysWhy, status_error}
+use Rattle.fw_cli.specs.declared.status.StatusError.{StatusError}
+use Rattle.fw_cli.proofs.Passing.{passed_to}
 use Rattle.fw_cli.proofs.status.reading_of.Goals as goal
 
 has_status : (bytes : List ℕ) (found : Option Contents) (book : Contents) (known : Known) (none campaigns : List CampaignStatus) (old rows : List Noted)
@@ -27,3 +33,17 @@ returns-clause-status c =
     has_status c.args.bytes.now _ c.in-Some.book _ c.new-campaigns.result.items c.push_campaigns.new.campaigns.items c.new-rows.result.items
     c.push_noted.new.rows.items c.in_ok-book.ensures.found c.in_ok-book.ensures.noted c.in-Some.is c.new-campaigns.ensures.items
     c.in_ok-push_campaigns.ensures c.new-rows.ensures.items c.in_ok-push_noted.ensures
+
+-- bytes that hold no book are no file that isn't read
+no_reason : (e : OpenError) → e ≢ opening.ForeignHead → e ≢ opening.BookFault → SaysWhy (status_error e) None
+no_reason (opening.BadBook offset) foreign failed = refl
+no_reason (opening.BadRecord index) foreign failed = refl
+no_reason opening.ForeignHead foreign failed = absurd (foreign refl)
+no_reason opening.BookFault foreign failed = absurd (failed refl)
+no_reason opening.OutOfMemory foreign failed = refl
+
+pub returns-in_err-book-clause-reason : goal.returns-in_err-book-clause-reason
+returns-in_err-book-clause-reason c =
+    let passed = err_from_is_err_and c.from_residual.result c.from_residual.ensures.1 in
+    let refusals = c.in_err-book.ensures.refusals in
+    passed_to c.from_residual.result (λ (e : StatusError). SaysWhy e None) passed.0 _ passed.1 passed.2 (no_reason _ refusals.0 refusals.1)

@@ -1,6 +1,6 @@
 use Rattle.std.proofs.Common.{◌≡◌, ◌∙◌, ap, Err}
 use Rattle.std.proofs.lemmas.Result.{err_from_is_err_and}
-use Rattle.fw_faults.specs.declared.fault.Fault.TheVariants.{BadSetup}
+use Rattle.fw_store.specs.declared.error.SetupError.TheVariants.{BadSetup}
 use Rattle.fw_cli.proofs.stored.new_store.Goals as goal
 
 pub returns-then-not-describes_one-clause-bad_setup : goal.returns-then-not-describes_one-clause-bad_setup

@@ -2,10 +2,10 @@ use Rattle.std.proofs.Common.{◌≡◌, Some, inl, inr, subst, sym, ◌∙◌}
 use Rattle.std.specs.Option.{option_map}
 use Rattle.std.proofs.KnownBytes.{Keeps-refl}
 use Rattle.fw_capture.specs.declared.fault.CaptureError.{CaptureError}
-use Rattle.fw_faults.specs.declared.fault.Fault.TheVariants as fault
 use Rattle.fw_dissect.specs.Streams.{Dissects}
 use Rattle.fw_dissect.proofs.Flow.{front_of_whole}
-use Rattle.fw_cli.proofs.Dissected.{asked_fault, cut_fault, is_of_trace, other_fault}
+use Rattle.fw_cli.specs.declared.trace.TraceError.TheVariants as trace
+use Rattle.fw_cli.proofs.Dissected.{asked_fault, cut_fault, other_fault}
 use Rattle.fw_cli.proofs.trace.run_trace.Goals as goal
 
 pub returns-in-Ok-None-clause-ok : goal.returns-in-Ok-None-clause-ok
@@ -27,17 +27,14 @@ returns-in-Ok-Some-clause-front g c = λ other.
 -- ---- where something else ends it
 
 pub returns-in-Err-clause-front : goal.returns-in-Err-clause-front
-returns-in-Err-clause-front g c = rw c.fault_of.ensures (other_fault c.in-Err.error c.in-Err.ensures.front)
+returns-in-Err-clause-front g c = rw c.trace_error.ensures (other_fault c.in-Err.error c.in-Err.ensures.front)
 
 pub returns-in-Err-clause-bad_capture : goal.returns-in-Err-clause-bad_capture
 returns-in-Err-clause-bad_capture g c = λ error found.
-    let same : c.fault_of.result ≡ fault.BadCapture error = cc in
-    inr (cut_fault c.args.links.now (g.R.Read.remaining c.args.reader.now) c.in-Err.error error c.in-Err.ensures.cause (sym c.fault_of.ensures ∙ same))
+    let same : c.trace_error.result ≡ trace.BadCapture error = cc in
+    inr (cut_fault c.args.links.now (g.R.Read.remaining c.args.reader.now) c.in-Err.error error c.in-Err.ensures.cause (sym c.trace_error.ensures ∙ same))
 
 pub returns-in-Err-clause-asked : goal.returns-in-Err-clause-asked
 returns-in-Err-clause-asked g c = λ found.
-    let same : c.fault_of.result ≡ fault.CaptureFault = cc in
-    asked_fault c.in-Err.error c.in-Err.ensures.asked (sym c.fault_of.ensures ∙ same)
-
-pub returns-in-Err-clause-faults : goal.returns-in-Err-clause-faults
-returns-in-Err-clause-faults g c = rw c.fault_of.ensures (is_of_trace c.in-Err.error)
+    let same : c.trace_error.result ≡ trace.CaptureFault = cc in
+    asked_fault c.in-Err.error c.in-Err.ensures.asked (sym c.trace_error.ensures ∙ same)

@@ -1,16 +1,17 @@
 use Rattle.std.proofs.Common.{◌≡◌, ◌≤◌, ◌++◌, ℕ, List, Result, Ok, Err, IfErr, take, arith, length-append, length-take, subst, sym}
 use Rattle.std.specs.Prelude.{IsErrAnd, Option}
 use Rattle.std.proofs.KnownBytes.{Consumes-trans}
-use Rattle.fw_faults.specs.declared.fault.Fault.{Fault}
-use Rattle.fw_faults.specs.declared.fault.Fault.TheVariants.{OutOfMemory}
+use Rattle.fw_faults.specs.declared.error.InputError.{InputError}
+use Rattle.fw_faults.specs.declared.error.InputError.TheVariants.{OutOfMemory}
+use Rattle.fw_faults.specs.Faults.{fault_of_input}
 use Rattle.fw_faults.specs.Reading.{Gives, ReadsUntil, max_input}
 use Rattle.fw_faults.proofs.input.read_input.Goals as goal
 
 -- how much was read if memory ran out
-wanted_after : {T : Type 0} (result : Result T Fault) (before after : Option (List ℕ)) → IsErrAnd result (λ fault. fault ≡ OutOfMemory)
-    → Gives before after (λ count. count ≤ max_input) → IfErr result (λ fault. ReadsUntil fault before after)
+wanted_after : {T : Type 0} (result : Result T InputError) (before after : Option (List ℕ)) → IsErrAnd result (λ error. error ≡ OutOfMemory)
+    → Gives before after (λ count. count ≤ max_input) → IfErr result (λ error. ReadsUntil (fault_of_input error) before after)
 wanted_after (Ok value) before after wanted given = tt
-wanted_after (Err fault) before after wanted given = subst (λ f. ReadsUntil f before after) (sym wanted) given
+wanted_after (Err error) before after wanted given = subst (λ (e : InputError). ReadsUntil (fault_of_input e) before after) (sym wanted) given
 
 pub returns-then-count-len-clause-reading : goal.returns-then-count-len-clause-reading
 returns-then-count-len-clause-reading g c =

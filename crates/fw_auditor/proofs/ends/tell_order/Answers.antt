@@ -1,0 +1,6 @@
+use Rattle.std.proofs.Common.{List, subst, ap, ◌∙◌}
+use Rattle.fw_order.specs.Order.{End, HasOrder, ends_of}
+use Rattle.fw_auditor.proofs.ends.tell_order.Goals as goal
+
+pub returns-in-Ok : goal.returns-in-Ok
+returns-in-Ok g c is = subst HasOrder (ap ends_of c.deref.ensures.value ∙ c.in_ok-logs.ensures) c.in-Ok.ensures.agree
