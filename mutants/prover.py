@@ -61,12 +61,21 @@ def body_of(lines, at, indent):
     """Where the body of the function at a line with this indentation begins, and where it ends. None if it has no body."""
     if lines[at].endswith("}") and lines[at].count("{") == lines[at].count("}"):
         return at, at
-    opens = next((it for it in range(at, len(lines)) if is_at(lines[it], indent) and lines[it].endswith(("{", "{}", ";"))), None)
-    if opens is None or lines[opens].endswith(";"):
+    # (a method that a trait only names can end in a clause: then the next item comes first, or what closes the trait)
+    next_item = re.compile(rf"(?!{indent})|{indent}(\}}|///|#|ghost |(pub |final |const |unsafe )*fn )")
+    ends = next((it for it in range(at + 1, len(lines)) if lines[it] and next_item.match(lines[it])), len(lines))
+    # (an edit can put the body's first statement behind the brace)
+    opens = next((it for it in range(at, ends) if is_at(lines[it], indent) and (is_open(lines[it]) or lines[it].endswith(("{}", ";")))), None)
+    if opens is None or lines[opens].endswith(";") and not is_open(lines[opens]):
         return None
     if lines[opens].endswith("{}"):
         return opens, opens
     return opens, next((it for it in range(opens, len(lines)) if lines[it] == f"{indent}}}"), opens)
+
+
+def is_open(line):
+    """Whether a line leaves a brace open."""
+    return line.count("{") > line.count("}")
 
 
 def attributes_above(lines, at):

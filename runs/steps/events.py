@@ -7,6 +7,7 @@ import subprocess
 
 from common import bound, name_of, wants
 from ends import Fleet, HeadEnd, ended_rows, opening
+from services import lines_until
 
 TIME = re.compile(r"\d{4}-\d\d-\d\dT\d\d:\d\d:\d\d\.\d{6}Z")
 # A line that a power cut tore, and other programs' files.
@@ -183,10 +184,35 @@ def other_inputs_are_judged_first(place):
     refused("BookExists", ["--new"])
 
 
+# To be seen: an event or a page that can't be written and of which nobody is told, or each; a head end that ends by that.
+def what_cant_be_written_is_told_once(place):
+    """If events can't be written any more, or a page of metrics, standard error says so, of each once, and the head end goes on."""
+    folder = place.folder
+    env = place.preloaded("unwritten", UNWRITTEN=2, NAME="/events")
+    for every in ("0", "60"):
+        files = [folder / f"{every}.prom", folder / "events"]
+        with Fleet(folder / every, 1).killed() as fleet:
+            # Until it is started again nothing ends, so the next page is the last one.
+            fleet.meters[1].kill()
+            words = ["--new", *opening(fleet.folder, b"newer"), "--every", every, "--resend", "100"]
+            with HeadEnd(fleet.folder, *words, "--events", files[1], "--metrics", files[0], env=env).running() as head:
+                lines_until(head, "opened ")
+                files[0].write_text(OTHERS[0])
+                fleet.restart(1)
+                status, _, said = head.end()
+            fleet.run(b"newer")
+        want = ["an event can't be written: no space is left on the device", "a page of metrics can't be written: it is another program's file"]
+        wants((status, said) == (0, want), f"with --every {every} it ends with {status}, and says {said}")
+        wants(events_of(folder) == [{"event": "started"}], f"the events are {events_of(folder)}")
+        wants(files[0].read_text() == OTHERS[0], "another program's file is replaced")
+        files[1].unlink()
+
+
 STEPS = [
     events_are_told_with_the_lines,
     metrics_have_the_rows,
     events_that_cant_be_read_are_told,
+    what_cant_be_written_is_told_once,
     files_of_others_stay,
     both_files_are_judged_first,
     other_inputs_are_judged_first,

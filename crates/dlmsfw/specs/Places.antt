@@ -6,9 +6,11 @@ use Rattle.fw_disk.specs.declared.reason.Reason.{Reason}
 use Rattle.fw_disk.specs.declared.name.Name.{Name}
 use Rattle.fw_disk.specs.declared.name.Name.TheVariants.{Main}
 use Rattle.fw_faults.specs.declared.fault.Fault.{Fault}
-use Rattle.fw_faults.specs.declared.fault.Fault.TheVariants.{StoreFault, Device, BadFile, BadHeader, BadImage, FactoryFault, Socket, NoBook, BookExists, Locked, BookFault, BadBook, BadRecord, ForeignHead, Full, ListFault, BadList, ImageFault, EmptyImage, ImageTooLong, BadSetup, OpenRefused, CancelRefused, TooManyFailed, CaptureFault, ForeignCapture, KeysFault, KeysReadable, BadKeys, NoKey, NoCounter, CounterExists, CounterLocked, CounterFault, CounterSpent}
+use Rattle.fw_faults.specs.declared.fault.Fault.TheVariants.{StoreFault, Device, BadFile, BadHeader, BadImage, Socket, NoBook, BookExists, Locked, BookFault, BadBook, BadRecord, ForeignHead, Full, ListFault, BadList, ImageFault, EmptyImage, ImageTooLong, BadSetup, OpenRefused, CancelRefused, TooManyFailed, CaptureFault, ForeignCapture, KeysFault, KeysReadable, BadKeys, NoKey, NoCounter, CounterExists, CounterLocked, CounterFault, CounterSpent}
 use Rattle.fw_cli.specs.declared.input_cause.InputCause.{InputCause}
-use Rattle.fw_cli.specs.declared.meter.MeterFault.{MeterFault}
+use Rattle.fw_cli.specs.declared.meter_error.MeterError.{MeterError}
+use Rattle.fw_cli.specs.declared.meter_error.MeterError.TheVariants as meter
+use Rattle.fw_cli.specs.declared.meter_error.MeterFailure.{MeterFailure}
 use Rattle.dlmsfw.specs.declared.cause.BookPlaces.{BookPlaces}
 use Rattle.dlmsfw.specs.declared.cause.BookPlace.{BookPlace}
 use Rattle.dlmsfw.specs.declared.cause.BookPlace.TheVariants.{Book, HeadListen, Meters, Image, Open, Cancel, Campaign, Threshold, HeadCapture, HeadKeys, HeadCounter}
@@ -46,24 +48,33 @@ factory_of places = option_map_or FactoryFile places.factory_file (Capacity plac
 abbrev pub counter_of : Name → MeterPlaces → Option Place
 counter_of name places = option_map (λ path. Counter (record { path = path; name = name })) places.keys
 
-abbrev pub place_in : Fault → Option ℕ → Name → MeterPlaces → Option Place
-place_in Socket number name places = Some (listen_of number places)
-place_in FactoryFault number name places = option_map FactoryFile places.factory_file
-place_in BadSetup number name places = Some (factory_of places)
-place_in CaptureFault number name places = option_map (λ path. Capture (record { path = path; number = None; name = name })) places.capture
-place_in ForeignCapture number name places = option_map (λ path. Capture (record { path = path; number = None; name = name })) places.capture
-place_in KeysFault number name places = option_map Keys places.keys
-place_in KeysReadable number name places = option_map Keys places.keys
-place_in (BadKeys line why) number name places = option_map Keys places.keys
-place_in NoCounter number name places = counter_of name places
-place_in CounterExists number name places = counter_of name places
-place_in CounterLocked number name places = counter_of name places
-place_in CounterFault number name places = counter_of name places
-place_in CounterSpent number name places = counter_of name places
-place_in fault number name places = store_place_of fault (record { path = places.store; number = number; name = name })
+-- the file that has a meter
+abbrev pub meter_file : Option ℕ → Name → MeterPlaces → Option Place
+meter_file number name places = Some (Store (record { path = places.store; number = number; name = name }))
 
-abbrev pub place_of : MeterFault → MeterPlaces → Option Place
-place_of ended places = place_in ended.fault ended.number (name_in ended.reason) places
+abbrev pub place_in : MeterError → Option ℕ → Name → MeterPlaces → Option Place
+place_in meter.Socket number name places = Some (listen_of number places)
+place_in meter.FactoryFault number name places = option_map FactoryFile places.factory_file
+place_in meter.BadSetup number name places = Some (factory_of places)
+place_in meter.CaptureFault number name places = option_map (λ path. Capture (record { path = path; number = None; name = name })) places.capture
+place_in meter.ForeignCapture number name places = option_map (λ path. Capture (record { path = path; number = None; name = name })) places.capture
+place_in meter.KeysFault number name places = option_map Keys places.keys
+place_in meter.KeysReadable number name places = option_map Keys places.keys
+place_in (meter.BadKeys line why) number name places = option_map Keys places.keys
+place_in meter.NoCounter number name places = counter_of name places
+place_in meter.CounterExists number name places = counter_of name places
+place_in meter.CounterLocked number name places = counter_of name places
+place_in meter.CounterFault number name places = counter_of name places
+place_in meter.CounterSpent number name places = counter_of name places
+place_in meter.StoreFault number name places = meter_file number name places
+place_in meter.Device number name places = meter_file number name places
+place_in meter.BadFile number name places = meter_file number name places
+place_in meter.BadHeader number name places = meter_file number name places
+place_in meter.BadImage number name places = meter_file number name places
+place_in error number name places = None
+
+abbrev pub place_of : MeterFailure → MeterPlaces → Option Place
+place_of ended places = place_in ended.error ended.number (name_in ended.reason) places
 
 abbrev pub answer_place_of : Because Fault → NamedFile → Option Place
 answer_place_of because store = store_place_of because.error (record store { name = name_in because.reason })

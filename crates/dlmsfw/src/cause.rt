@@ -9,8 +9,8 @@ ghost use Rattle.dlmsfw.specs.Texts.{book_place_text, counter_text, file_text, p
 use crate::refusal::Refusal;
 use crate::{FAULT, TOO_MANY_FAILED, refusal};
 use fw_cli::{
-    CancelOptions, GiveUpOptions, HeadOptions, InputCause, MeterFault, MeterOptions, StatusOptions,
-    SurveyOptions,
+    CancelOptions, GiveUpOptions, HeadOptions, InputCause, MeterError, MeterFailure, MeterOptions,
+    StatusOptions, SurveyOptions,
 };
 use fw_disk::{Because, Name, Reason};
 use fw_faults::Fault;
@@ -225,7 +225,7 @@ impl fmt::Display for Place<'_> {
 }
 
 /// What the fault of a meter is about, if it is one of these.
-pub(crate) fn place_of<'a>(ended: MeterFault, places: MeterPlaces<'a>) -> Option<Place<'a>>
+pub(crate) fn place_of<'a>(ended: MeterFailure, places: MeterPlaces<'a>) -> Option<Place<'a>>
     ensures { result ≡ place_of ended places.entry }
 {
     let name = name_in(ended.reason);
@@ -234,37 +234,42 @@ pub(crate) fn place_of<'a>(ended: MeterFault, places: MeterPlaces<'a>) -> Option
         number: ended.number,
         name,
     };
-    match ended.fault {
-        Fault::Socket => Some(match ended.number {
+    match ended.error {
+        MeterError::Socket => Some(match ended.number {
             Some(number) => Place::ListenOf(places.listen, number),
             None => Place::Listen(places.listen),
         }),
-        Fault::FactoryFault => match places.factory_file {
+        MeterError::FactoryFault => match places.factory_file {
             Some(file) => Some(Place::FactoryFile(file)),
             None => None,
         },
         // The factory image is empty or longer than the capacity; without a file it isn't empty.
-        Fault::BadSetup => Some(match places.factory_file {
+        MeterError::BadSetup => Some(match places.factory_file {
             Some(file) => Place::FactoryFile(file),
             None => Place::Capacity(places.capacity),
         }),
-        Fault::CaptureFault | Fault::ForeignCapture => Some(Place::Capture(NamedFile {
+        MeterError::CaptureFault | MeterError::ForeignCapture => Some(Place::Capture(NamedFile {
             path: places.capture?,
             number: None,
             name,
         })),
-        Fault::KeysFault | Fault::KeysReadable | Fault::BadKeys(_, _) => {
+        MeterError::KeysFault | MeterError::KeysReadable | MeterError::BadKeys(_, _) => {
             Some(Place::Keys(places.keys?))
         }
-        Fault::NoCounter
-        | Fault::CounterExists
-        | Fault::CounterLocked
-        | Fault::CounterFault
-        | Fault::CounterSpent => Some(Place::Counter(CounterFile {
+        MeterError::NoCounter
+        | MeterError::CounterExists
+        | MeterError::CounterLocked
+        | MeterError::CounterFault
+        | MeterError::CounterSpent => Some(Place::Counter(CounterFile {
             path: places.keys?,
             name,
         })),
-        fault => store_place_of(fault, store),
+        MeterError::StoreFault
+        | MeterError::Device
+        | MeterError::BadFile
+        | MeterError::BadHeader
+        | MeterError::BadImage => Some(Place::Store(store)),
+        MeterError::Output | MeterError::OutOfMemory => None,
     }
 }
 
@@ -294,19 +299,21 @@ pub(crate) fn answer_place_of<'a>(
 /// an address, or of a file that is read, it is why the system refuses that now, if it does.
 pub(crate) fn refusal_of(
     rt: &(impl Net + Files),
-    ended: MeterFault,
+    ended: MeterFailure,
     place: Option<Place<'_>>,
 ) -> Option<Refusal>
     ensures { TellsReason place.entry ended.reason result }
 {
-    match (ended.fault, place?) {
+    match (ended.error, place?) {
         (_, Place::Store(_)) => refusal::of_reason(ended.reason),
         (_, Place::Capture(_)) => refusal::of_reason(ended.reason),
         (_, Place::Keys(_)) => refusal::of_reason(ended.reason),
         (_, Place::Counter(_)) => refusal::of_reason(ended.reason),
-        (Fault::Socket, Place::Listen(at)) => refusal::of_address(rt, at),
-        (Fault::Socket, Place::ListenOf(first, number)) => refusal::of_addresses(rt, first, number),
-        (Fault::FactoryFault, Place::FactoryFile(path)) => refusal::of_file(rt, path),
+        (MeterError::Socket, Place::Listen(at)) => refusal::of_address(rt, at),
+        (MeterError::Socket, Place::ListenOf(first, number)) => {
+            refusal::of_addresses(rt, first, number)
+        }
+        (MeterError::FactoryFault, Place::FactoryFile(path)) => refusal::of_file(rt, path),
         _ => None,
     }
 }

@@ -34,18 +34,19 @@ use cause::{BookPlaces, MeterPlaces, NamedFile, Place};
 use clap::error::ErrorKind;
 use fw_auditor::{AuditEnd, AuditFault, AuditOptions, run_audit};
 use fw_cli::{
-    AnswerOptions, CancelFault, CancelOptions, Ended, GaveUp, GiveUpOptions, HeadOptions,
-    InputCause, KeysFailure, KeysOptions, LedOut, LiveOptions, MeterFault, MeterOptions,
-    NameOptions, RehearseOptions, ReplayOptions, StatusOptions, StoredOptions, SurveyOptions,
-    ToldFiles, TraceError, TraceKeys, Untold, head_cause, keys_cause, run_answer,
-    run_answer_stored, run_cancel, run_give_up, run_head, run_keys, run_live, run_meter, run_name,
-    run_rehearse, run_replay, run_status, run_survey, run_trace, survey_cause, trace_links,
+    AnswerOptions, CancelOptions, Ended, GaveUp, GiveUpOptions, HeadOptions, InputCause,
+    KeysFailure, KeysOptions, LedOut, LiveOptions, MeterFailure, MeterOptions, NameOptions,
+    RehearseOptions, ReplayOptions, StatusOptions, StoredOptions, SurveyOptions, ToldFiles,
+    TraceError, TraceKeys, Untold, head_cause, keys_cause, run_answer, run_answer_stored,
+    run_cancel, run_give_up, run_head, run_keys, run_live, run_meter, run_name, run_rehearse,
+    run_replay, run_status, run_survey, run_trace, survey_cause, trace_links,
 };
 use fw_disk::{Because, Cause, Name, Reason};
 use fw_faults::Fault;
 use fw_host::ProgressOutput;
 use fw_key_files::KeyFileError;
 use fw_names::HeadId;
+use fw_rollout::SECOND;
 use fw_seal::Link;
 use key_places::KeyPlaces;
 use options::{CaptureOption, HeadShown, Invocation, TraceOptions};
@@ -63,9 +64,6 @@ use std::sync::Wait;
 use std::thread::Threads;
 use std::{env, io};
 use trace_places::{TraceFault, TracePlaces};
-
-/// The microseconds of a second.
-const SECOND: u64 = 1_000_000;
 
 /// The status of work that is done.
 const GOOD: u8 = 0;
@@ -100,7 +98,7 @@ enum Ending<'a> {
     /// A fault of an answer over the store in this file.
     Answer(Because<Fault>, &'a str),
     /// A fault of a meter with this address, these files and this capacity, or of one of several.
-    Meter(MeterFault, MeterPlaces<'a>),
+    Meter(MeterFailure, MeterPlaces<'a>),
     /// A fault of a head end with this address and these files, or of the book that is read, and its cause, if the list or the book shows it.
     Book(Because<Fault>, BookPlaces<'a>, Option<InputCause>),
     /// The file of events or of metrics of a head end can't be made, opened, read or written. What is shown of it has their paths.
@@ -232,7 +230,13 @@ fn answer_stored<'a, R: AllocGlobal + Files<File = File> + Input + Print>(
     let writer = &mut io::writer(rt);
     match run_answer_stored(rt, rt.alloc(), reader, writer, &options) {
         Ok(()) => Ok(()),
-        Err(because) => Err(Ending::Answer(because, options.file)),
+        Err(because) => {
+            let because = Because {
+                error: Fault::from(because.error),
+                reason: because.reason,
+            };
+            Err(Ending::Answer(because, options.file))
+        }
     }
 }
 
@@ -439,12 +443,16 @@ fn head<'a, R: AllocGlobal + Files<File = File> + Clock + Print + Eprint + Net +
         Ok(LedOut::NoneFailed) => Ok(()),
         Ok(LedOut::SomeFailed) => Err(Ending::RowsFailed),
         Ok(LedOut::SomeUnlisted) => Err(Ending::RowsUnlisted),
-        Err(because) => {
+        Err(failure) => {
             if let Some(untold) = &files.untold {
                 return Err(Ending::Told(*untold, shown));
             }
-            let input = head_cause(rt, alloc, options, because.error);
+            let input = head_cause(rt, alloc, options, failure.error);
             let places = BookPlaces::of_head(options, shown.cancel);
+            let because = Because {
+                error: Fault::from(failure.error),
+                reason: failure.reason,
+            };
             Err(Ending::Book(because, places, input))
         }
     }
@@ -460,17 +468,13 @@ fn cancel<'a, R: AllocGlobal + Files<File = File> + Print + Eprint>(
     let writer = &mut io::writer(rt);
     match run_cancel(rt, rt.alloc(), writer, options) {
         Ok(()) => Ok(()),
-        Err(ended) => {
-            let CancelFault {
-                fault: error,
-                serial,
-                reason,
-            } = ended;
-            Err(Ending::Book(
-                Because { error, reason },
-                BookPlaces::of_cancel(options, serial),
-                None,
-            ))
+        Err(failure) => {
+            let because = Because {
+                error: Fault::from(failure.error),
+                reason: failure.reason,
+            };
+            let places = BookPlaces::of_cancel(options, failure.serial);
+            Err(Ending::Book(because, places, None))
         }
     }
 }
@@ -487,7 +491,13 @@ fn give_up<'a, R: AllocGlobal + Files<File = File> + Clock + Print + Eprint>(
     match run_give_up(rt, rt.alloc(), writer, options) {
         Ok(GaveUp::Each) => Ok(()),
         Ok(GaveUp::NotEach) => Err(Ending::RowsLacking),
-        Err(because) => Err(Ending::Book(because, BookPlaces::of_give_up(options), None)),
+        Err(because) => {
+            let because = Because {
+                error: Fault::from(because.error),
+                reason: because.reason,
+            };
+            Err(Ending::Book(because, BookPlaces::of_give_up(options), None))
+        }
     }
 }
 
@@ -666,7 +676,7 @@ fn report(rt: &(impl Print + Eprint + Net + Files), ending: Ending<'_>) -> ExitC
         Ending::Meter(ended, places) => {
             let place = cause::place_of(ended, places);
             let refusal = cause::refusal_of(rt, ended, place);
-            fail_at(rt, ended.fault, place, refusal)
+            fail_at(rt, Fault::from(ended.error), place, refusal)
         }
         Ending::Book(because, places, input) => fail_book(rt, &because, places, input),
         Ending::Told(untold, shown) => {

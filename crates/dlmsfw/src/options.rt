@@ -1,5 +1,8 @@
 //! The command line of `dlmsfw`, and its help.
 
+ghost use Rattle.std.specs.Prelude.{◌≡◌};
+ghost use Rattle.dlmsfw.specs.declared.options.WrongValue.TheVariants.{OutOfMemory};
+
 mod answer;
 mod audit;
 mod cancel;
@@ -27,6 +30,7 @@ use fw_cli::{
     SurveyOptions,
 };
 use fw_host::SealingOptions;
+use fw_rollout::{LONGEST_WAIT, MILLISECOND};
 use fw_sealport::Order;
 use manual::{CommandOption, Presence, Takes};
 use std::alloc::{AllocError, AllocFailed, Global};
@@ -94,12 +98,16 @@ enum WrongValue<'a> {
 }
 
 impl<'a> From<AllocError> for WrongValue<'a> {
+    ghost from_gives = { λ _ e. e ≡ OutOfMemory };
+
     fn from(_error: AllocError) -> WrongValue<'a> {
         WrongValue::OutOfMemory
     }
 }
 
 impl<'a, T: Drop> From<AllocFailed<T>> for WrongValue<'a> {
+    ghost from_gives = { λ _ e. e ≡ OutOfMemory };
+
     fn from(_error: AllocFailed<T>) -> WrongValue<'a> {
         WrongValue::OutOfMemory
     }
@@ -240,6 +248,15 @@ fn with<'a>(
 ) -> Result<Command<'a>, AllocError> {
     program.subcommand(made?)
 }
+
+/// The most rounds of each link.
+const MAX_ROUNDS: u32 = 100_000;
+
+/// The longest wait for a first answer, in milliseconds.
+const LONGEST_RESEND: u32 = (LONGEST_WAIT / MILLISECOND) as u32;
+
+/// The most asks that a daemon has out at once.
+const MAX_FLIGHT: u32 = 65_536;
 
 /// The option that asks for a trace.
 const TRACE: CommandOption = CommandOption {

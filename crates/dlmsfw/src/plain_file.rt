@@ -3,14 +3,12 @@
 ghost use Rattle.std.specs.Prelude.{◌≤◌, IfOk, length};
 
 use fw_disk::{Cause, Name, Reason};
+use fw_key_files::OWNER_ALONE;
 use std::fs::{File, OpenOptions};
 use std::io;
 use std::io::Write;
 use std::os::unix::fs::OpenOptionsExt;
 use std::rt::Files;
-
-/// The permission bits of a file that its owner alone may read and write.
-const OWNER_ALONE: u32 = 0o600;
 
 /// A file that is made with the first write to it, and not before: what was secret stands in it, so its owner alone may read it, and no file is
 /// written over. It remembers why the last write that failed did.

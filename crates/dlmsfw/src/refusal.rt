@@ -6,14 +6,11 @@ ghost use Rattle.dlmsfw.specs.Refusals.{input_told, reason_told, refusal_of};
 
 use fw_auditor::LineCause;
 use fw_cli::InputCause;
-use fw_disk::{Cause, Reason};
+use fw_disk::{Cause, Reason, TOO_MANY_OPEN};
 use std::io::ErrorKind;
 use std::net::{Net, SocketAddr, UdpSocket};
 use std::rt::Files;
 use std::{fmt, fs, io};
-
-/// The error numbers of Linux that say that a process, or the system, has as many open files as it may.
-const TOO_MANY: [i32; 2] = [24, 23];
 
 /// Why an address or a file is refused. It prints what the user reads behind the option that has it.
 #[derive(Clone, Copy)]
@@ -57,7 +54,7 @@ impl Refusal {
     /// Why the system refuses the address that gave this error.
     fn of(error: &io::Error) -> Refusal {
         match error.raw_os_error() {
-            Some(number) if TOO_MANY.contains(&number) => Refusal::TooManySockets,
+            Some(number) if TOO_MANY_OPEN.contains(&number) => Refusal::TooManySockets,
             _ => Refusal::of_kind(error.kind()),
         }
     }

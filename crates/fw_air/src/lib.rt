@@ -30,4 +30,4 @@ pub use scheduling::{schedule, schedule_watched};
 pub use shared::{SharedLog, Stub};
 pub use udp::{PairError, UdpWire};
 pub use watch::Watch;
-pub use wire::{MAX_PASSED, MAX_RECEIVED, Pass, Wire, WireFault};
+pub use wire::{MAX_PASSED, Pass, Wire, WireFault};

@@ -20,18 +20,20 @@ ghost use Rattle.std.specs.Prelude.{
   reverse,
   slice_get,
 };
+ghost use Rattle.fw_blocks.specs.Width.{max_width};
 ghost use Rattle.fw_air.specs.Logs.{FindsLast, IsCopy, IsCounted, IsSent, capped};
 ghost use Rattle.fw_air.specs.Parts.{FindsLastFrom, datagrams_of, entries_of, parts};
 ghost use Rattle.fw_world.specs.View.{event_of};
 
 use crate::wanted::Wanted;
+use fw_blocks::MAX_WIDTH;
 use fw_world::{Actor, Datagram, Event};
 use std::alloc::{AllocError, Global};
 use std::marker::Model;
 use std::mem;
 
-/// The most datagrams that an event adds.
-pub const MAX_ADDED: usize = 15;
+/// The most datagrams that an event adds: those of a whole window.
+pub const MAX_ADDED: usize = MAX_WIDTH as usize;
 
 /// An event, and how many datagrams it added to what was sent.
 #[derive(Drop)]
@@ -103,13 +105,14 @@ pub struct Room {
 impl Model for Room {
     ghost use Rattle.std.specs.Prelude.{List, ◌≤◌, length};
     ghost use Rattle.std.specs.Vec.{vec_capacity};
+    ghost use Rattle.fw_blocks.specs.Width.{max_width};
     ghost use Rattle.fw_world.specs.World.{Datagram};
 
     ghost Value = { List Datagram };
 
     ghost view = { λ r. r.sent.items };
 
-    ghost invariant = { λ r. 15 ≤ vec_capacity r.sent };
+    ghost invariant = { λ r. max_width ≤ vec_capacity r.sent };
 }
 
 impl Room {
@@ -131,7 +134,7 @@ impl Room {
     /// Puts in a datagram that the event sends, after those that are there. It asks that these are fewer than 15, and takes no
     /// memory.
     pub fn push(&mut self, datagram: Datagram)
-        requires { length self.old < 15 }
+        requires { length self.old < max_width }
         ensures { self.new ≡ self.old ++ datagram ∷ [] }
     {
         self.sent.push_reserved(datagram);

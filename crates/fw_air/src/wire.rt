@@ -1,13 +1,11 @@
 //! Wires: what carries the datagrams of a link, and may lose them.
 
 ghost use Rattle.std.specs.Prelude.{◌≡◌, ◌≤◌, ◌+◌, length, IfOk, IfSome, IfNone};
+ghost use Rattle.fw_wrapper.specs.Wrapper.{max_received};
 
+use fw_wrapper::MAX_RECEIVED;
 use std::fmt;
 use thiserror::Error;
-
-/// The most bytes of a datagram that is looked up: one more than a datagram of this profile can have, so a longer one is cut to bytes
-/// that nobody sent.
-pub const MAX_RECEIVED: usize = 2313;
 
 /// The most datagrams that one pass reads from a wire.
 pub const MAX_PASSED: u32 = 64;
@@ -47,12 +45,13 @@ impl Pass {
         Pass { left: MAX_PASSED }
     }
 
-    /// Reads the next datagram of the pass into the buffer, and returns how many bytes of it stand there. With `None` the pass is
-    /// over: nothing came in time, the wire failed, or 64 datagrams were read.
+    /// Reads the next datagram of the pass into the buffer, and returns how many bytes of it stand there. A longer one than this profile
+    /// can have is cut to bytes that nobody sent. With `None` the pass is over: nothing came in time, the wire failed, or 64 datagrams
+    /// were read.
     pub fn next<W: Wire>(&mut self, wire: &mut W, buffer: &mut [u8; MAX_RECEIVED]) -> Option<usize>
         ensures one { IfSome result (λ _. self.new.left + 1 ≡ self.old.left) }
         ensures over { IfNone result (self.new.left ≡ 0) }
-        ensures bound { IfSome result (λ count. count ≤ 2313) }
+        ensures bound { IfSome result (λ count. count ≤ max_received) }
     {
         if self.left == 0 {
             return None;

@@ -77,9 +77,13 @@ MayHoldData s = (body : List ℕ) × HoldsDataAt s body × MayTakeMemory max_dep
 abbrev pub NoRequest : List ℕ → Type 0
 NoRequest s = (invoke : ℕ) (content : RequestContent) → SpellsRequest s invoke content → ⊥
 
+-- how many invoke-ids there are
+abbrev pub invoke_ids : ℕ
+invoke_ids = 16
+
 -- The invoke byte: bits 0 to 3 are the invoke-id, bit 6 is the service class, bit 7 the priority; the others are ignored (own).
 abbrev pub invoke_id : ℕ → ℕ
-invoke_id invoke = invoke % 16
+invoke_id invoke = invoke % invoke_ids
 
 -- the service class: whether the sender waits for a response
 abbrev pub is_confirmed : ℕ → Bool

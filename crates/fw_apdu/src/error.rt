@@ -5,7 +5,7 @@ ghost use Rattle.fw_apdu.specs.declared.error.ApduError.TheVariants.{OutOfMemory
 ghost use Rattle.fw_apdu.specs.Cause.{fault_from};
 
 use fw_axdr::AxdrError;
-use fw_reader::Trailing;
+use fw_axdr::reader::Trailing;
 use std::alloc::{AllocError, AllocFailed};
 use std::fmt;
 use thiserror::Error;

@@ -9,7 +9,7 @@ ghost use Rattle.fw_apdu.specs.Request.{invoke_id, is_confirmed};
 pub struct Invoke(pub u8);
 
 /// How many invoke-ids there are.
-const IDS: u8 = 16;
+pub const INVOKE_IDS: u8 = 16;
 
 /// The bit of the service class.
 const CONFIRMED: u8 = 0x40;
@@ -19,7 +19,7 @@ impl Invoke {
     pub fn id(self) -> u8
         ensures { result ≡ invoke_id self.0 }
     {
-        self.0 % IDS
+        self.0 % INVOKE_IDS
     }
 
     /// The service class: whether the sender waits for a response.

@@ -11,7 +11,7 @@ mod request;
 mod response;
 
 pub use error::ApduError;
-pub use fields::{Invoke, LogicalName};
+pub use fields::{INVOKE_IDS, Invoke, LogicalName};
 pub use request::{Request, read_request, write_request};
 pub use response::{
     GetDataResult, Response, action_code, get_code, read_response, set_code, write_response,

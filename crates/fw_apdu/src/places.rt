@@ -8,8 +8,8 @@ ghost use Rattle.fw_axdr.specs.Memory.{MayTakeMemory};
 ghost use Rattle.fw_apdu.specs.Fault.{DataFails, EndFails, IfFault, IfMemory, IsBadData};
 
 use crate::error::ApduError;
+use fw_axdr::reader::end;
 use fw_axdr::{Data, read, unwritable};
-use fw_reader::end;
 use std::alloc::Global;
 
 /// The Data that the bytes are, all of them.

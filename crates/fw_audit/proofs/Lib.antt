@@ -1,4 +1,3 @@
-mod Sizes
 mod Running
 mod Leading
 mod Steps

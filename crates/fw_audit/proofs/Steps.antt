@@ -2,19 +2,18 @@
 use Rattle.std.proofs.Common.{◌≡◌, ◌++◌, ℕ, Bool, true, IsTrue, List, [], Option, Some, None, inl, inr, refl, sym, ap, subst, ◌∙◌}
 use Rattle.std.specs.declared.net.socket_addr.SocketAddr.{SocketAddr}
 use Rattle.fw_names.specs.Name.{Name}
-use Rattle.fw_image.specs.Laws.{OneTurn}
+use Rattle.fw_image.specs.Laws.{OneTurn, TurnKeepsSize}
 use Rattle.fw_image.specs.Meter.{Image, Meter, reopened, status_of}
 use Rattle.fw_image.specs.State.{State, Follows, Turns}
 use Rattle.fw_image.specs.Step.{Turn}
 use Rattle.fw_image.specs.declared.status.TransferStatus.TheVariants.{VerificationInitiated}
 use Rattle.fw_meter.specs.Handling.{Handles}
-use Rattle.fw_meter.specs.Laws.{OneAnswer}
+use Rattle.fw_meter.specs.Laws.{KeepsSize, OneAnswer}
 use Rattle.fw_stored.specs.Stored.{IsSound}
 use Rattle.fw_audit.specs.Log.{Item, started, came, sent, turned}
 use Rattle.fw_audit.specs.Stands.{Stand, ended, waits, owes, left_by, owing, switched_to, Hears, Makes, MayAsk, TakesTurn}
 use Rattle.fw_audit.specs.Private.{Alive, IsNext, IsOpen, stand_of}
 use Rattle.fw_audit.specs.declared.going.Going.{Going}
-use Rattle.fw_audit.proofs.Sizes.{handled_size, turned_size}
 
 -- only a start leads on from where a process ended
 pub alive_before : (heads : List SocketAddr) (old new : Stand) (item : Item) (images : List Image) → Makes heads old item images new → (item ≡ started → ⊥) → Alive old
@@ -62,16 +61,16 @@ turned_once turn old after takes others new (verifies, inr h) alive = absurd (no
 
 -- ---- the steps
 
-pub heard_next : OneAnswer → (heads : List SocketAddr) (had : List Image) (old : Meter) (from : SocketAddr) (datagram : List ℕ) (reply : Option (List ℕ)) (name : Option Name) (next : Going)
+pub heard_next : OneAnswer → KeepsSize → (heads : List SocketAddr) (had : List Image) (old : Meter) (from : SocketAddr) (datagram : List ℕ) (reply : Option (List ℕ)) (name : Option Name) (next : Going)
     → MayAsk heads from → Handles true IsTrue old datagram reply name next.meter.meter → stand_of next ≡ owing from reply next.meter.meter
     → next.switched.items ≡ had ++ switched_to name next.meter.meter → IsSound next.meter → IsNext heads had (waits old) (came from datagram) next
-heard_next answer heads had old from datagram reply name next may handles stands so_far sound = record {
+heard_next answer sizes heads had old from datagram reply name next may handles stands so_far sound = record {
   images = switched_to name next.meter.meter;
   makes = inl (record { may_ask = may; reply = reply; name = name; after = next.meter.meter; handles = handles; switches = refl; stands = stands });
   so_far = so_far;
   alone = λ others new h alive. handled_once answer heads old next.meter.meter from datagram reply name may handles others new h alive ∙ sym stands;
   sound = sound;
-  size = handled_size old next.meter.meter datagram reply name handles;
+  size = sizes old next.meter.meter datagram reply name handles;
 }
 
 pub dropped_next : (heads : List SocketAddr) (had : List Image) (old : Meter) (from : SocketAddr) (datagram : List ℕ) (next : Going)
@@ -86,16 +85,16 @@ dropped_next heads had old from datagram next may_not same stands so_far sound =
   size = ap (λ (m : Meter). m.capacity) same;
 }
 
-pub turned_next : OneTurn → (heads : List SocketAddr) (had : List Image) (old : Meter) (next : Going)
+pub turned_next : OneTurn → TurnKeepsSize → (heads : List SocketAddr) (had : List Image) (old : Meter) (next : Going)
     → status_of old.phase ≡ VerificationInitiated → Turn true old true next.meter.meter → stand_of next ≡ waits next.meter.meter
     → next.switched.items ≡ had ++ [] → IsSound next.meter → IsNext heads had (waits old) turned next
-turned_next turn heads had old next verifies takes stands so_far sound = record {
+turned_next turn sizes heads had old next verifies takes stands so_far sound = record {
   images = [];
   makes = (verifies, inl (record { after = next.meter.meter; turn = takes; none = refl; stands = stands }));
   so_far = so_far;
   alone = λ others new h alive. turned_once turn old next.meter.meter takes others new h alive ∙ sym stands;
   sound = sound;
-  size = turned_size old next.meter.meter takes;
+  size = sizes old next.meter.meter takes;
 }
 
 pub paid_next : (heads : List SocketAddr) (had : List Image) (old : Meter) (there to : SocketAddr) (reply bytes : List ℕ) (next : Going)

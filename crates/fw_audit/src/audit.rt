@@ -3,7 +3,6 @@
 ghost use Rattle.std.specs.Prelude.{◌≡◌, ◌≢◌, ◌≤◌, ◌⊎◌, [], false, All, IfErr, IfOk, IfSome, IsTrue, List, Some, length, slice_get};
 ghost use Rattle.std.specs.List.{AllWithin};
 ghost use Rattle.fw_image.specs.Meter.{Meter, reopened};
-ghost use Rattle.fw_store.specs.Setup.{IsCapacity};
 ghost use Rattle.fw_audit.specs.Departures.{IsRefused};
 ghost use Rattle.fw_audit.specs.Log.{Item, item_of, log_of, started};
 ghost use Rattle.fw_audit.specs.Private.{Adds, AddsBoth, AreAllLeft, GathersOn, HasMeter, IsAllOutlived, IsChosen, IsFollowed, StartsAt};
@@ -37,7 +36,6 @@ pub fn audit_meter(
     items: &[LogItem<'_>],
     end: &MeterCore<MemoryStore>,
 ) -> Result<Vec<Switched>, AuditError>
-    requires { IsCapacity begin.meter.capacity }
     ensures is { IfOk result (λ images. IsMeterLog heads.now (reopened begin.meter) (log_of items.now) images.items end.now.meter) }
     ensures refused { IfErr result (λ error. IsRefused heads.now (reopened begin.meter) (log_of items.now) end.now.meter error) }
 {
@@ -87,7 +85,6 @@ fn followed(
     begin: MeterCore<MemoryStore>,
     items: &[LogItem<'_>],
 ) -> Result<Vec<Left>, Stop>
-    requires { IsCapacity begin.meter.capacity }
     ensures { IsFollowed heads.now (reopened begin.meter) (log_of items.now) result }
 {
     if !starts(items) {
@@ -127,7 +124,6 @@ fn all_outlived(
 ) -> Result<Vec<Left>, Stop>
     requires some { 1 ≤ length lefts.items }
     requires rests { All (λ left. reopened left.meter.meter ≡ left.meter.meter) lefts.items }
-    requires room { All (λ left. IsCapacity left.meter.meter.capacity) lefts.items }
     requires going { All (λ item. item_of item ≢ started) items.now }
     ensures { IsAllOutlived heads.now lefts.items (log_of items.now) result }
 {
@@ -162,7 +158,6 @@ fn gathered(
     far: Option<Departure>,
 ) -> Result<(Vec<Left>, Option<Departure>), AllocError>
     requires rests { reopened left.meter.meter ≡ left.meter.meter }
-    requires room { IsCapacity left.meter.meter.capacity }
     requires going { All (λ item. item_of item ≢ started) items.now }
     ensures { IfOk result (λ both. GathersOn heads.now (log_of items.now) left found.items far both.0.items both.1) }
 {

@@ -162,6 +162,7 @@ fn hear(
 {
     fw_meter::laws::faultless();
     fw_meter::laws::one_answer();
+    fw_meter::laws::keeps_size();
     if !may_ask(heads, from) {
         return Ok(Going::started(meter, switched));
     }
@@ -186,6 +187,7 @@ fn turn(meter: MeterCore<MemoryStore>, switched: Vec<Switched>) -> Result<Going,
     ensures { (heads : List SocketAddr) → IsStepped heads switched.items (waits meter.meter) turned result }
 {
     fw_image::laws::one_turn();
+    fw_image::laws::turn_keeps_size();
     let mut meter = meter;
     if meter.status() == TransferStatus::VerificationInitiated {
         meter.turn();

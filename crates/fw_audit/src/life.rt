@@ -2,7 +2,6 @@
 
 ghost use Rattle.std.specs.Prelude.{◌≡◌, ◌≢◌, ◌∷◌, false, All, IsTrue};
 ghost use Rattle.fw_image.specs.Meter.{reopened};
-ghost use Rattle.fw_store.specs.Setup.{IsCapacity};
 ghost use Rattle.fw_stored.specs.Stored.{IsSound};
 ghost use Rattle.fw_audit.specs.Log.{item_of, log_of, started};
 ghost use Rattle.fw_audit.specs.Stands.{left_by};
@@ -104,7 +103,6 @@ impl Left {
         items: &[LogItem<'_>],
     ) -> Result<(Left, Option<Left>), Stop>
         requires rests { reopened self.meter.meter ≡ self.meter.meter }
-        requires room { IsCapacity self.meter.meter.capacity }
         requires going { All (λ item. item_of item ≢ started) items.now }
         ensures { IsOutlived heads.now self.switched.items self.meter.meter (log_of items.now) result }
     {
@@ -144,7 +142,6 @@ impl Left {
         items: &[LogItem<'_>],
     ) -> Result<(Left, Left), Stop>
         requires rests { reopened self.meter.meter ≡ self.meter.meter }
-        requires room { IsCapacity self.meter.meter.capacity }
         requires going { All (λ item. item_of item ≢ started) items.now }
         requires open { EndsOpen (log_of items.now) }
         ensures { IsDied heads.now self.switched.items self.meter.meter (log_of items.now) result }

@@ -8,7 +8,6 @@ use Rattle.fw_book.specs.Contents.{Contents}
 use Rattle.fw_evidence.specs.Heads.{IsHeadLogOf}
 use Rattle.fw_evidence.specs.declared.error.Mark.{Mark}
 use Rattle.fw_evidence.specs.declared.log.Log.{Log}
-use Rattle.fw_head_audit.specs.Heads.{IsHeadLog}
 use Rattle.fw_head_audit.specs.declared.meter.AskedMeter.{AskedMeter}
 use Rattle.fw_order.specs.Order.{End, end_of, ends_of}
 use Rattle.fw_order.specs.declared.log.EndLog.{EndLog}

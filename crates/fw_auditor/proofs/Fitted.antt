@@ -1,5 +1,5 @@
 -- What is said of meters, one after another, is what the headline needs.
-use Rattle.std.proofs.Common.{◌≡◌, ◌∙◌, ◌⊎◌, ℕ, ◌+◌, ◌<◌, List, [], ◌∷◌, ◌++◌, length, map, take, get_or, Option, None, Some, Result, refl, sym, ap, subst, inl, inr, arith}
+use Rattle.std.proofs.Common.{◌≡◌, ◌∙◌, ℕ, ◌+◌, ◌<◌, List, [], ◌∷◌, ◌++◌, length, map, take, get_or, Option, None, Some, Result, refl, sym, ap, subst, inl, inr, arith}
 use Rattle.std.specs.Prelude.{All, IfOk, option_to_list}
 use Rattle.std.specs.List.{AllZip, cons_option, filter_map}
 use Rattle.std.specs.Vec.{vec_len}
@@ -7,7 +7,7 @@ use Rattle.std.specs.declared.net.socket_addr.SocketAddr.{SocketAddr}
 use Rattle.std.proofs.lemmas.List.{take_more}
 use Rattle.std.proofs.lemmas.List.Elements.{All-cons, All-map, All-nil, All-weaker, filter_map-append}
 use Rattle.std.proofs.lemmas.Result.{IfOk-weaker}
-use Rattle.fw_audit.specs.Log.{Item, log_of}
+use Rattle.fw_audit.specs.Log.{log_of}
 use Rattle.fw_audit.specs.Stands.{IsMeterLog}
 use Rattle.fw_book.specs.Contents.{Contents}
 use Rattle.fw_evidence.specs.Captures.{IsLogOf}

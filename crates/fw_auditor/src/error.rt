@@ -1,6 +1,9 @@
 //! Why an audit ends early.
 
-use fw_kept::OpenError;
+ghost use Rattle.std.specs.Prelude.{◌≡◌};
+ghost use Rattle.fw_auditor.specs.Errors.{unaudited_book};
+
+use fw_kept::ReadingError;
 use std::fmt;
 use thiserror::Error;
 
@@ -78,14 +81,14 @@ impl fmt::Display for Unaudited {
     }
 }
 
-impl From<OpenError> for Unaudited {
-    fn from(error: OpenError) -> Unaudited {
+impl From<ReadingError> for Unaudited {
+    ghost from_gives = { λ error e. e ≡ unaudited_book error };
+
+    fn from(error: ReadingError) -> Unaudited {
         match error {
-            OpenError::BadBook { offset } => Unaudited::BadBook(offset),
-            OpenError::BadRecord { index } => Unaudited::BadRecord(index),
-            // These come only if a head end is to have the book.
-            OpenError::ForeignHead | OpenError::BookFault => Unaudited::BookFault,
-            OpenError::OutOfMemory => Unaudited::OutOfMemory,
+            ReadingError::BadBook { offset } => Unaudited::BadBook(offset),
+            ReadingError::BadRecord { index } => Unaudited::BadRecord(index),
+            ReadingError::OutOfMemory => Unaudited::OutOfMemory,
         }
     }
 }

@@ -1,5 +1,8 @@
 //! The files of an audit, read alone.
 
+ghost use Rattle.std.specs.Prelude.{◌≡◌, None};
+ghost use Rattle.fw_auditor.specs.declared.error.Unaudited.TheVariants.{OutOfMemory};
+
 use crate::error::Unaudited;
 use crate::list::Subject;
 use fw_disk::{Cause, Name, Reason};
@@ -21,6 +24,8 @@ pub struct AuditFault {
 }
 
 impl From<Unaudited> for AuditFault {
+    ghost from_gives = { λ fault made. made ≡ record { fault = fault; file = None; reason = None } };
+
     fn from(fault: Unaudited) -> AuditFault {
         AuditFault {
             fault,
@@ -31,6 +36,8 @@ impl From<Unaudited> for AuditFault {
 }
 
 impl From<AllocError> for AuditFault {
+    ghost from_gives = { λ _ made. made ≡ record { fault = OutOfMemory; file = None; reason = None } };
+
     fn from(_error: AllocError) -> AuditFault {
         AuditFault::from(Unaudited::OutOfMemory)
     }

@@ -2,7 +2,6 @@
 
 ghost use Rattle.std.specs.Prelude.{◌≡◌, ◌+◌, ◌++◌, IfOk, IsTrue, OnOk, option_to_list};
 ghost use Rattle.std.specs.Vec.{vec_len};
-ghost use Rattle.fw_store.specs.Setup.{IsCapacity};
 ghost use Rattle.fw_auditor.specs.Fitting.{IsWholePart};
 ghost use Rattle.fw_auditor.specs.Private.{AreCompared, BeginsAs, HasFit, Holds, IsCompared, IsFound, beside, others_of};
 
@@ -90,7 +89,6 @@ fn append_audited<'c>(
     capture: &'c [u8],
     end: &MeterCore<MemoryStore>,
 ) -> Result<Verdict<'c>, AllocError>
-    requires { IsCapacity begin.meter.capacity }
     ensures { IfOk result (HasFit given.now subject.now begin.meter capture.now end.now.meter) }
 {
     let form = given.options.report;
@@ -359,8 +357,7 @@ fn begin_of(
     factory: &[u8],
     began: Option<StoreFiles>,
 ) -> Result<MeterCore<MemoryStore>, NoMeter>
-    ensures begins { IfOk result (λ meter. BeginsAs fresh.now factory.now began meter.meter) }
-    ensures room { IfOk result (λ meter. IsCapacity meter.meter.capacity) }
+    ensures { IfOk result (λ meter. BeginsAs fresh.now factory.now began meter.meter) }
 {
     match began {
         Some(files) => match meter_in(alloc, files) {
@@ -377,8 +374,7 @@ fn begin_of(
 
 /// The meter in the files of a store as they lie there.
 fn meter_in(alloc: Global, files: StoreFiles) -> Result<MeterCore<MemoryStore>, StoreRefusal>
-    ensures meter { IfOk result (λ meter. Holds files meter.meter) }
-    ensures room { IfOk result (λ meter. IsCapacity meter.meter.capacity) }
+    ensures { IfOk result (λ meter. Holds files meter.meter) }
 {
     let StoreFiles { store, journal } = files;
     match &journal {

@@ -3,8 +3,8 @@ use Rattle.std.proofs.Common.{◌≡◌, ℕ, ◌+◌, ◌-◌, ◌^◌, ◌<◌
 use Rattle.std.specs.Result.{MatchResult}
 use Rattle.std.proofs.lemmas.Bool.{ltb-true, ltb-false, eqb-true, eqb-false, lt-ltb, le-ltb, ne_eqb, or_cases, or_parts, or_from, cases_lt, cond_both}
 use Rattle.std.proofs.lemmas.List.{take_at, drop_at, take-append-drop, length-take, length-append}
-use Rattle.fw_reader.specs.Reading.{◌>>=◌, number}
-use Rattle.fw_reader.specs.Reading as reader
+use Rattle.fw_axdr.specs.Reading.{◌>>=◌, number}
+use Rattle.fw_axdr.specs.Reading as reader
 use Rattle.fw_axdr.specs.declared.error.AxdrError.{AxdrError}
 use Rattle.fw_axdr.specs.Spelling.{IsLength, short_length}
 use Rattle.fw_axdr.specs.Fault.{LengthFails}

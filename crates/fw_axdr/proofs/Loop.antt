@@ -1,9 +1,9 @@
 -- Reading one value after another, as a loop does, and the byte at the place of a value.
 use Rattle.std.proofs.Common.{◌≡◌, ℕ, zero, suc, ◌-◌, ◌+◌, ◌≤◌, ◌<◌, List, [], ◌∷◌, ◌++◌, Option, Result, Ok, Err, refl, sym, ap, subst, ◌∙◌, arith}
-use Rattle.fw_reader.specs.declared.error.ReadError.{ReadError}
-use Rattle.fw_reader.specs.declared.error.ReadError.TheVariants as read
-use Rattle.fw_reader.specs.Reading.{◌>>=◌}
-use Rattle.fw_reader.specs.Reading as reader
+use Rattle.fw_axdr.specs.declared.reader.ReadError.{ReadError}
+use Rattle.fw_axdr.specs.declared.reader.ReadError.TheVariants as read
+use Rattle.fw_axdr.specs.Reading.{◌>>=◌}
+use Rattle.fw_axdr.specs.Reading as reader
 use Rattle.fw_axdr.specs.Cause.{fault_from}
 use Rattle.fw_axdr.specs.declared.error.AxdrError.{AxdrError}
 use Rattle.fw_axdr.specs.declared.error.AxdrError.TheVariants.{Truncated, UnknownTag, BadLength, TooDeep, OutOfMemory}

@@ -7,7 +7,7 @@ use Rattle.std.proofs.lemmas.Bool.{le-ltb, lt-ltb, ne_eqb, cases_lt}
 use Rattle.std.proofs.lemmas.Nat.{from_be_bytes-to_be_bytes_8}
 use Rattle.std.proofs.lemmas.Int.{to_z-of_z}
 use Rattle.std.proofs.Math.Facts.{Fits-of_z, Fits-lt-pow}
-use Rattle.fw_reader.specs.Reading.{number}
+use Rattle.fw_axdr.specs.Reading.{number}
 use Rattle.fw_axdr.specs.declared.error.AxdrError.{AxdrError}
 use Rattle.fw_axdr.specs.declared.error.AxdrError.TheVariants.{BadLength}
 use Rattle.fw_axdr.specs.Bits.{bit, byte_bits, bits, bytes_for, packed_into, packed}

@@ -4,8 +4,8 @@ use Rattle.std.specs.Prelude.{MatchOption}
 use Rattle.std.specs.Result.{MatchResult}
 use Rattle.std.proofs.lemmas.Bool.{ltb-true, ltb-false, le-ltb, cond_both}
 use Rattle.std.proofs.lemmas.List.{take_at, drop_at, take-append-drop, length-take, length-append}
-use Rattle.fw_reader.specs.Reading.{number}
-use Rattle.fw_reader.specs.Reading as reader
+use Rattle.fw_axdr.specs.Reading.{number}
+use Rattle.fw_axdr.specs.Reading as reader
 use Rattle.fw_axdr.specs.declared.error.AxdrError.{AxdrError}
 use Rattle.fw_axdr.specs.declared.error.AxdrError.TheVariants.{UnknownTag}
 use Rattle.fw_axdr.specs.declared.tag.Tag.{Tag}

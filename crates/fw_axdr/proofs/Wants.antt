@@ -3,9 +3,9 @@ use Rattle.std.proofs.Common.{◌≡◌, ℕ, zero, suc, ◌-◌, ◌≤◌, ◌
 use Rattle.std.specs.Prelude.{IfErr}
 use Rattle.std.proofs.lemmas.List.{length-append}
 use Rattle.std.proofs.lemmas.Result.{MatchResult-at_ok}
-use Rattle.fw_reader.specs.declared.error.ReadError.{ReadError}
-use Rattle.fw_reader.specs.declared.error.ReadError.TheVariants as read
-use Rattle.fw_reader.specs.Reading as reader
+use Rattle.fw_axdr.specs.declared.reader.ReadError.{ReadError}
+use Rattle.fw_axdr.specs.declared.reader.ReadError.TheVariants as read
+use Rattle.fw_axdr.specs.Reading as reader
 use Rattle.fw_axdr.specs.Cause.{fault_from}
 use Rattle.fw_axdr.specs.declared.error.AxdrError.{AxdrError}
 use Rattle.fw_axdr.specs.declared.error.AxdrError.TheVariants.{Truncated, UnknownTag, BadLength, TooDeep, OutOfMemory}

@@ -2,6 +2,7 @@
 pub mod Value
 pub mod View
 pub mod Bits
+pub mod Reading
 pub mod Spelling
 pub mod Fault
 pub mod Cause

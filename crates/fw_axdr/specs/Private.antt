@@ -1,9 +1,9 @@
 -- For private clauses alone: tags, reading, writing and the clearing of unused bits, beside the relations.
 use Rattle.std.specs.Prelude.{ℕ, Option, Some, None, ◌==◌, if◌then◌else◌, ◌≡◌, zero, suc, Bool, not, List, [], ◌∷◌, length, take, Result, Ok, Err}
 use Rattle.std.specs.Int.{w8, w16, w32, w64, cast_signed}
-use Rattle.fw_reader.specs.declared.error.ReadError.{ReadError}
-use Rattle.fw_reader.specs.Reading.{◌>>=◌}
-use Rattle.fw_reader.specs.Reading as reader
+use Rattle.fw_axdr.specs.declared.reader.ReadError.{ReadError}
+use Rattle.fw_axdr.specs.Reading.{◌>>=◌}
+use Rattle.fw_axdr.specs.Reading as reader
 use Rattle.fw_axdr.specs.declared.error.AxdrError.{AxdrError}
 use Rattle.fw_axdr.specs.declared.error.AxdrError.TheVariants.{Truncated, UnknownTag, BadLength, TooDeep, OutOfMemory}
 use Rattle.fw_axdr.specs.Bits.{bits, bytes_for, packed}

@@ -4,7 +4,7 @@
 -- boolean byte is true; unused bits of a bit-string may be anything; elements of an array may differ in type; the depth is at most 8.
 use Rattle.std.specs.Prelude.{◌≡◌, ℕ, ◌+◌, ◌^◌, ◌<◌, ◌≤◌, ◌⊎◌, ℤ, not, ◌==◌, List, [], ◌∷◌, ◌++◌, length, nat_lt, if◌then◌else◌, take, drop}
 use Rattle.std.specs.Int.{Width, w8, w16, w32, w64, to_be_bytes, cast_signed, cast_unsigned}
-use Rattle.fw_reader.specs.Reading.{number}
+use Rattle.fw_axdr.specs.Reading.{number}
 use Rattle.fw_axdr.specs.Value.{Value, Values, null, array, structure, boolean, bit_string, double_long, double_long_unsigned, octet_string, visible_string, integer, long, unsigned, long_unsigned, long64, long64_unsigned, enumerated, none, more, count, depth}
 use Rattle.fw_axdr.specs.Bits.{bits, bytes_for, packed}
 

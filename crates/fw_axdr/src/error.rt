@@ -4,7 +4,7 @@ ghost use Rattle.std.specs.Prelude.{◌≡◌};
 ghost use Rattle.fw_axdr.specs.declared.error.AxdrError.TheVariants.{OutOfMemory};
 ghost use Rattle.fw_axdr.specs.Cause.{fault_from};
 
-use fw_reader::ReadError;
+use crate::reader::ReadError;
 use std::alloc::{AllocError, AllocFailed};
 use std::fmt;
 use thiserror::Error;

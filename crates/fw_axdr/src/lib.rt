@@ -15,6 +15,7 @@ mod error;
 mod judging;
 pub mod laws;
 mod octets;
+pub mod reader;
 mod reading;
 mod tag;
 mod writing;

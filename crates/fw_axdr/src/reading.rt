@@ -12,8 +12,8 @@ use crate::bits::Bits;
 use crate::data::{Data, Items, MAX_DEPTH};
 use crate::error::AxdrError;
 use crate::octets::Octets;
+use crate::reader::Reader;
 use crate::tag::Tag;
-use fw_reader::Reader;
 use std::alloc::{AllocError, Global};
 
 /// A copy of bytes. That of none takes no memory.

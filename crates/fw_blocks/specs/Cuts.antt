@@ -33,6 +33,15 @@ max_block_size = 1024
 abbrev pub max_blocks : ℕ
 max_blocks = 16384
 
+-- the most bytes that an image has: 16 MiB, those of the most blocks of the most bytes
+abbrev pub max_image : ℕ
+max_image = max_blocks * max_block_size
+
+-- an image has 1 to 16,777,216 bytes
+pub record IsImageSize (size : ℕ) : Type 0 where
+  pub begins : 1 ≤ size
+  pub ends : size ≤ max_image
+
 -- blocks of 1 to 1,024 bytes, and 1 to 16,384 of them
 pub record IsWithinLimits (block_size size : ℕ) : Type 0 where
   pub block_begins : 1 ≤ block_size

@@ -1,8 +1,8 @@
 //! Where the blocks of an image lie.
 
-ghost use Rattle.std.specs.Prelude.{◌≡◌, ℕ, ◌-◌, ◌<◌, ◌≤◌, List, [], length, slice_range, SomeIff, IfSome, IfNone};
+ghost use Rattle.std.specs.Prelude.{◌≡◌, ℕ, ◌-◌, ◌<◌, ◌≤◌, ◌↔◌, List, [], length, slice_range, IsTrue, SomeIff, IfSome, IfNone};
 ghost use Rattle.std.specs.Option.{option_copied};
-ghost use Rattle.fw_blocks.specs.Cuts.{IsWithinLimits, cut, block_count, block_start, block_end, max_block_size, max_blocks};
+ghost use Rattle.fw_blocks.specs.Cuts.{IsImageSize, IsWithinLimits, cut, block_count, block_start, block_end, max_block_size, max_blocks};
 
 use std::marker::Model;
 
@@ -11,6 +11,16 @@ pub const MAX_BLOCK_SIZE: u32 = 1024;
 
 /// The most blocks that an image has.
 pub const MAX_BLOCKS: u32 = 16384;
+
+/// The most bytes that an image has: 16 MiB, those of the most blocks of the most bytes.
+pub const MAX_IMAGE_SIZE: u32 = MAX_BLOCKS * MAX_BLOCK_SIZE;
+
+/// Whether an image can have so many bytes: 1 to 16,777,216. A slot for images can have them too.
+pub fn is_image_size(size: u32) -> bool
+    ensures { IsTrue result ↔ IsImageSize size }
+{
+    (1..=MAX_IMAGE_SIZE).contains(&size)
+}
 
 /// The size of an image in bytes and the size of the blocks that it is cut into, both within the
 /// limits (IEC 62056-6-2, Image transfer: image_block_size).

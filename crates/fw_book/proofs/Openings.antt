@@ -4,11 +4,12 @@ use Rattle.std.specs.List.{list_any, AllByRecursion}
 use Rattle.std.proofs.lemmas.Bool.{cases_Bool, cond-true, cond-false}
 use Rattle.std.proofs.lemmas.Bool.Decides.{Decides-eqb, nat_tests}
 use Rattle.std.proofs.lemmas.List.{length-map}
+use Rattle.fw_blocks.specs.Cuts.{max_image}
 use Rattle.fw_wrapper.specs.Refusals.{first_applying}
 use Rattle.fw_names.specs.Name.{Campaign, IsOpened}
 use Rattle.fw_book.specs.declared.error.BookError.{BookError}
 use Rattle.fw_book.specs.Rows.{live_row, meters_of, repeats}
-use Rattle.fw_book.specs.Contents.{Offered, Contents, max_image, max_meters, is_busy}
+use Rattle.fw_book.specs.Contents.{Offered, Contents, max_meters, is_busy}
 use Rattle.fw_book.specs.Changes.{opening_rows, opening_refusal, Opens}
 use Rattle.fw_book.specs.Private.{clashes, Admits}
 use Rattle.fw_book.specs.Laws.{AdmittedOpens}

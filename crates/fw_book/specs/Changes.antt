@@ -2,6 +2,7 @@
 use Rattle.std.specs.Prelude.{◌≡◌, ◌≢◌, ◌≤◌, ℕ, Bool, false, ◌==◌, not, nat_lt, is_none, IsSome, List, [], ◌∷◌, ◌++◌, map, length, Option, Some, None, if◌then◌else◌}
 use Rattle.std.specs.List.{list_any}
 use Rattle.std.specs.Option.{option_map_or}
+use Rattle.fw_blocks.specs.Cuts.{max_image}
 use Rattle.fw_wrapper.specs.Refusals.{first_applying}
 use Rattle.fw_names.specs.Name.{Campaign}
 use Rattle.fw_client.specs.Claim.{Claim}
@@ -11,7 +12,7 @@ use Rattle.fw_book.specs.declared.row.Row.{Row}
 use Rattle.fw_book.specs.declared.row.RowState.{RowState}
 use Rattle.fw_book.specs.declared.row.RowState.TheVariants.{Live}
 use Rattle.fw_book.specs.Rows.{is_live, has_live, live_row, repeats, with_state, cancelled_rows}
-use Rattle.fw_book.specs.Contents.{Offered, Contents, max_image, max_meters, offered_in, name_in, state_in, has_serial, is_busy}
+use Rattle.fw_book.specs.Contents.{Offered, Contents, max_meters, offered_in, name_in, state_in, has_serial, is_busy}
 use Rattle.fw_book.specs.Format.{IsReadAs}
 
 -- a book of no campaign

@@ -3,6 +3,7 @@ use Rattle.std.specs.Prelude.{◌≡◌, ◌≢◌, ℕ, ◌<◌, ◌≤◌, ◌
 use Rattle.std.specs.List.{list_any, AllByRecursion}
 use Rattle.std.specs.Map.{lookup, values_of}
 use Rattle.std.specs.Option.{option_map, option_and_then}
+use Rattle.fw_blocks.specs.Cuts.{max_image}
 use Rattle.fw_names.specs.Name.{Campaign, Name, name_of}
 use Rattle.fw_book.specs.declared.row.Row.{Row}
 use Rattle.fw_book.specs.declared.row.RowState.{RowState}
@@ -18,10 +19,6 @@ pub record Offered : Type 0 where
 pub record Contents : Type 0 where
   pub head : ℕ
   pub campaigns : List (ℕ × Offered)
-
--- the most bytes that an image can have: 16 MiB (own limit)
-abbrev pub max_image : ℕ
-max_image = 16777216
 
 -- the most meters that a campaign can have (own limit)
 abbrev pub max_meters : ℕ

@@ -2,12 +2,13 @@
 use Rattle.std.specs.Prelude.{◌≡◌, ℕ, Bool, false, nat_eq, ◌==◌, ◌&&◌, nat_lt, List, [], ◌∷◌, length, Option, zero, suc, ◌*◌, ◌<◌, ◌≤◌, ◌^◌, ◌++◌, Some, None}
 use Rattle.std.specs.HashSet.{contains}
 use Rattle.std.specs.List.{list_any, AllByRecursion}
+use Rattle.fw_blocks.specs.Cuts.{max_image}
 use Rattle.fw_book.specs.declared.error.BookError.{BookError}
 use Rattle.fw_book.specs.declared.error.BookError.TheVariants.{NoMeters, TooManyMeters, MeterTwice, MeterBusy}
 use Rattle.fw_book.specs.declared.live.LiveMeters.{LiveMeters}
 use Rattle.fw_book.specs.declared.row.Row.{Row}
 use Rattle.fw_book.specs.Rows.{is_live, repeats, meters_of}
-use Rattle.fw_book.specs.Contents.{Offered, Contents, max_meters, has_serial, is_busy, IsEntry, max_image, IsBook}
+use Rattle.fw_book.specs.Contents.{Offered, Contents, max_meters, has_serial, is_busy, IsEntry, IsBook}
 use Rattle.fw_wrapper.specs.Refusals.{first_applying}
 use Rattle.std.specs.Int.{w16, w32, to_be_bytes, from_be_bytes}
 use Rattle.fw_book.specs.declared.row.RowState.{RowState}

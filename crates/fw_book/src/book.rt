@@ -9,11 +9,12 @@ ghost use Rattle.fw_book.specs.Rows.{is_live};
 use crate::error::BookError;
 use crate::live::LiveMeters;
 use crate::meters::{live_rows, repeats, rows_of};
-use crate::offer::{MAX_IMAGE_SIZE, MAX_METERS, Offer};
+use crate::offer::{MAX_METERS, Offer};
 use crate::reading::entry_at;
 use crate::row::RowState;
 use crate::search::parts_of;
 use crate::writing::{write_entry, write_head};
+use fw_blocks::MAX_IMAGE_SIZE;
 use fw_client::ActiveClaim;
 use fw_names::{CampaignId, HeadId, ImageName, MeterId};
 use indexmap::IndexMap;
@@ -203,7 +204,7 @@ impl Book {
         if image.is_empty() {
             return Err(BookError::EmptyImage);
         }
-        if image.len() > MAX_IMAGE_SIZE {
+        if image.len() > MAX_IMAGE_SIZE as usize {
             return Err(BookError::ImageTooLong);
         }
         self.check_meters(meters)

@@ -20,7 +20,7 @@ mod writing;
 pub use book::{Book, Campaigns};
 pub use error::BookError;
 pub use notes::{Answer, End, Notes, Reason};
-pub use offer::{MAX_IMAGE_SIZE, MAX_METERS, Offer};
+pub use offer::{MAX_METERS, Offer};
 pub use phase::Phase;
 pub use restored::RestoredBook;
 pub use row::{Row, RowState};

@@ -12,9 +12,6 @@ use std::alloc::Global;
 use std::marker::Model;
 use std::sync::Arc;
 
-/// The most bytes that an image can have: 16 MiB (own limit of this profile).
-pub const MAX_IMAGE_SIZE: usize = 16_777_216;
-
 /// The most meters that a campaign can have (own limit of this profile).
 pub const MAX_METERS: usize = 256;
 

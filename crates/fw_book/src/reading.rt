@@ -30,10 +30,11 @@ ghost use Rattle.fw_book.specs.Private.{
   entry_in,
 };
 
-use crate::offer::{MAX_IMAGE_SIZE, MAX_METERS};
+use crate::offer::MAX_METERS;
 use crate::row::{Row, RowState};
 use crate::search::repeats;
 use crate::version::Version;
+use fw_blocks::MAX_IMAGE_SIZE;
 use fw_names::{HeadId, MeterId};
 
 /// The bytes of a row: four of its meter's number, and one of its state.
@@ -134,7 +135,7 @@ fn image_at(bytes: &[u8]) -> Option<(&[u8], &[u8])>
 {
     let (size, rest) = u32_at(bytes)?;
     let size = size as usize;
-    if size == 0 || size > MAX_IMAGE_SIZE || size > rest.len() {
+    if size == 0 || size > MAX_IMAGE_SIZE as usize || size > rest.len() {
         return None;
     }
     Some(rest.split_at(size))

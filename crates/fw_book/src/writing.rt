@@ -1,7 +1,8 @@
 //! How the parts of a book are written.
 
 ghost use Rattle.std.specs.Prelude.{◌≡◌, ◌≤◌, ◌++◌, length, OnOk, IfErr};
-ghost use Rattle.fw_book.specs.Contents.{IsEntry};
+ghost use Rattle.fw_blocks.specs.Cuts.{max_image};
+ghost use Rattle.fw_book.specs.Contents.{IsEntry, max_meters};
 ghost use Rattle.fw_book.specs.Format.{
   row_bytes,
   rows_bytes,
@@ -14,7 +15,7 @@ ghost use Rattle.fw_book.specs.Format.{
 ghost use Rattle.fw_book.specs.declared.version.Version.TheVariants.{Second};
 
 use crate::error::BookError;
-use crate::offer::{MAX_IMAGE_SIZE, MAX_METERS, Offer};
+use crate::offer::Offer;
 use crate::row::Row;
 use fw_names::HeadId;
 
@@ -54,7 +55,7 @@ fn write_rows(bytes: &mut Vec<u8>, rows: &[Row]) -> Result<(), BookError>
 
 /// Appends the number of rows, and then the rows.
 fn write_counted(bytes: &mut Vec<u8>, rows: &[Row]) -> Result<(), BookError>
-    requires { length rows.now ≤ MAX_METERS }
+    requires { length rows.now ≤ max_meters }
     ensures ok { OnOk result (bytes.new.items ≡ bytes.old.items ++ counted_bytes rows.now) }
     ensures memory { IfErr result (λ e. e ≡ BookError.OutOfMemory) }
 {
@@ -64,7 +65,7 @@ fn write_counted(bytes: &mut Vec<u8>, rows: &[Row]) -> Result<(), BookError>
 
 /// Appends the size of an image, and then the image.
 fn write_image(bytes: &mut Vec<u8>, image: &[u8]) -> Result<(), BookError>
-    requires { length image.now ≤ MAX_IMAGE_SIZE }
+    requires { length image.now ≤ max_image }
     ensures ok { OnOk result (bytes.new.items ≡ bytes.old.items ++ image_bytes image.now) }
     ensures memory { IfErr result (λ e. e ≡ BookError.OutOfMemory) }
 {

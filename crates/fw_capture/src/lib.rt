@@ -29,6 +29,7 @@ pub use fault::{CaptureError, CaptureFault};
 pub use format::{Format, Link};
 pub use packet::{Captured, Content, Note, Packet};
 pub use reader::Reader;
+pub use reading::FILE_HEADER_SIZE;
 pub use stream::{take_header, take_record};
 pub use whole::whole_len;
 pub use writing::{append_packet, file_header};

@@ -13,7 +13,7 @@ use crate::number::{half_at, number_at};
 use crate::packet::{Content, SECOND};
 
 /// The bytes of the file header.
-pub(crate) const FILE_HEADER_SIZE: usize = 24;
+pub const FILE_HEADER_SIZE: usize = 24;
 
 /// The bytes of the header of a record.
 pub(crate) const RECORD_HEADER_SIZE: usize = 16;

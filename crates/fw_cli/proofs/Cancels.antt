@@ -3,20 +3,25 @@ use Rattle.std.proofs.Common.{◌≡◌, ℕ, ◌+◌, ◌<◌, ◌≤◌, Bool,
 use Rattle.std.specs.Prelude.{IfSome, IsSomeAnd, is_some, slice_index_or, true}
 use Rattle.std.proofs.lemmas.List.{drop_all, drop_more, map-append}
 use Rattle.fw_book.specs.Changes.{cancel_refusal}
-use Rattle.fw_faults.specs.declared.fault.Fault.{Fault}
-use Rattle.fw_faults.specs.declared.fault.Fault.TheVariants as fault
+use Rattle.fw_book.specs.declared.error.BookError.{BookError}
 use Rattle.fw_head.specs.Head.{Head, campaign_at, cancelled_head}
 use Rattle.fw_journal.specs.declared.file.FileDevice.{FileDevice}
 use Rattle.fw_kept.specs.Head.{book_of, head_of}
+use Rattle.fw_kept.specs.Refusals.{IsRefusedFor}
+use Rattle.fw_kept.specs.declared.error.KeptError.{KeptError}
+use Rattle.fw_kept.specs.declared.error.KeptError.TheVariants as kept
 use Rattle.fw_kept.specs.declared.head.KeptHead.{KeptHead}
 use Rattle.fw_plan.specs.Ranges.{serials_of}
 use Rattle.fw_plan.specs.declared.ranges.SerialRange.{SerialRange}
-use Rattle.fw_host.specs.Heads.{IsCancelFault, IsOfOldBook, cancelled_line}
+use Rattle.fw_host.specs.Heads.{cancelled_line}
 use Rattle.fw_host.specs.Telling.{Told}
+use Rattle.fw_host.specs.declared.error.BookFileError.{BookFileError}
+use Rattle.fw_host.specs.declared.error.BookFileError.TheVariants as file
 use Rattle.fw_host.proofs.Tellings.{told_none, told_on}
-use Rattle.fw_cli.specs.Cancelling.{Cancels, HasCancelled, HasStopped, IsOfCampaign, IsOfCancel, Stopped, StopsAt, cancelled_all, cancelled_lines}
+use Rattle.fw_cli.specs.Cancelling.{Cancels, HasCancelled, HasStopped, IsNotCancelledFor, IsOfCampaign, Stopped, StopsAt, cancel_of_book, cancel_of_kept, cancelled_all, cancelled_lines}
+use Rattle.fw_cli.specs.declared.cancel.CancelError.{CancelError}
+use Rattle.fw_cli.specs.declared.cancel.CancelError.TheVariants.{OutOfMemory}
 use Rattle.fw_cli.specs.declared.cancel.CancelOptions.{CancelOptions}
-use Rattle.fw_cli.specs.Heads.{IsOfCancelling}
 
 -- one more is cancelled, after the others
 pub cancels_more : (serials : List ℕ) (serial : ℕ) (head : Head) → cancelled_all (serials ++ serial ∷ []) head ≡ cancelled_head (cancelled_all serials head) serial
@@ -59,36 +64,43 @@ pub cancels_all : (serials : List ℕ) (i : ℕ) (found last : Head) (p q : Bool
     → Cancels serials [] found last p q a b
 cancels_all serials i found last p q a b past so_far = subst (λ (l : List ℕ). Cancels serials l found last p q a b) (drop_all i serials past) so_far
 
+-- what the head end refuses it for is what the command does
+not_cancelled : (refusal : Option BookError) (e : KeptError) → IsRefusedFor refusal e → IsNotCancelledFor refusal (cancel_of_kept e)
+not_cancelled refusal (kept.Refused error) is = is
+not_cancelled refusal kept.Full is = is
+not_cancelled refusal kept.BookFault is = is
+not_cancelled refusal kept.OutOfMemory is = is
+
 -- the next is refused
-pub stopped : (serials : List ℕ) (i serial : ℕ) (named : Option ℕ) (first told : Fault) (found middle last : Head) (p q r : Bool) (a b c : Option (List ℕ)) → i < length serials
+pub stopped : (serials : List ℕ) (i serial : ℕ) (named : Option ℕ) (first : KeptError) (told : CancelError) (found middle last : Head) (p q r : Bool) (a b c : Option (List ℕ)) → i < length serials
     → Cancels serials (drop i serials) found middle p q a b → last ≡ middle → (r ≡ q) × (c ≡ b)
-    → (1 ≤ serial → IsCancelFault (cancel_refusal middle.book (campaign_at middle serial)) first) → named ≡ Some serial → told ≡ first → slice_index_or serials i serial ≡ serial
+    → (1 ≤ serial → IsRefusedFor (cancel_refusal middle.book (campaign_at middle serial)) first) → named ≡ Some serial → told ≡ cancel_of_kept first → slice_index_or serials i serial ≡ serial
     → IsSomeAnd named (λ (it : ℕ). StopsAt serials it told found last p r a c)
 stopped serials i serial named first told found middle last p q r a b c within so_far same (lost_same, text_same) refused is told_is at =
-    let stops : StopsAt serials serial first found middle p q a b = record {
+    let stops : StopsAt serials serial (cancel_of_kept first) found middle p q a b = record {
       others = drop (i + 1) serials;
       before_it = subst (λ (l : List ℕ). Cancels serials l found middle p q a b) (rest_at serials i serial within at) so_far;
-      refused = refused;
+      refused = λ some. not_cancelled (cancel_refusal middle.book (campaign_at middle serial)) first (refused some);
     } in
-    let here : StopsAt serials serial first found last p r a c =
-    subst (λ (h : Head). StopsAt serials serial first found h p r a c) (sym same)
-    (subst (λ (l : Bool). StopsAt serials serial first found middle p l a c) (sym lost_same)
-    (subst (λ (t : Option (List ℕ)). StopsAt serials serial first found middle p q a t) (sym text_same) stops)) in
+    let here : StopsAt serials serial (cancel_of_kept first) found last p r a c =
+    subst (λ (h : Head). StopsAt serials serial (cancel_of_kept first) found h p r a c) (sym same)
+    (subst (λ (l : Bool). StopsAt serials serial (cancel_of_kept first) found middle p l a c) (sym lost_same)
+    (subst (λ (t : Option (List ℕ)). StopsAt serials serial (cancel_of_kept first) found middle p q a t) (sym text_same) stops)) in
     subst (λ (o : Option ℕ). IsSomeAnd o (λ (it : ℕ). StopsAt serials it told found last p r a c)) (sym is)
-    (subst (λ (f : Fault). StopsAt serials serial f found last p r a c) (sym told_is) here)
+    (subst (λ (e : CancelError). StopsAt serials serial e found last p r a c) (sym told_is) here)
 
 -- the campaigns that these name
 pub cancels_these : (serials shown : List ℕ) (found last : Head) (p q : Bool) (a b : Option (List ℕ)) → shown ≡ serials → Cancels shown [] found last p q a b
     → Cancels serials [] found last p q a b
 cancels_these serials shown found last p q a b same cancels = subst (λ (l : List ℕ). Cancels l [] found last p q a b) same cancels
 
-pub stopped_these : (serials shown : List ℕ) (named : Option ℕ) (first : Fault) (found last : Head) (p q : Bool) (a b : Option (List ℕ)) → shown ≡ serials
+pub stopped_these : (serials shown : List ℕ) (named : Option ℕ) (first : CancelError) (found last : Head) (p q : Bool) (a b : Option (List ℕ)) → shown ≡ serials
     → IsSomeAnd named (λ (serial : ℕ). StopsAt shown serial first found last p q a b) → Stopped serials named first found last p q a b
 stopped_these serials shown None first found last p q a b same stops = absurd stops
 stopped_these serials shown (Some serial) first found last p q a b same stops = subst (λ (l : List ℕ). StopsAt l serial first found last p q a b) same stops
 
 -- none of them, since there is no memory
-pub stopped_none : (serials : List ℕ) (named : Option ℕ) (first : Fault) (found : Head) (p : Bool) (a : Option (List ℕ)) → named ≡ None → Stopped serials named first found found p p a a
+pub stopped_none : (serials : List ℕ) (named : Option ℕ) (first : CancelError) (found : Head) (p : Bool) (a : Option (List ℕ)) → named ≡ None → Stopped serials named first found found p p a a
 stopped_none serials named first found p a none = subst (λ (o : Option ℕ). Stopped serials o first found found p p a a) (sym none) (refl, refl, refl)
 
 -- the campaigns that the options name
@@ -106,7 +118,7 @@ has_cancelled options named found last was lost text b same number cancels = rec
 }
 
 -- those before the one that is refused
-pub has_stopped : (options : CancelOptions) (named : List SerialRange) (serial : Option ℕ) (first : Fault) (found last : KeptHead FileDevice) (was lost : Bool) (text b : Option (List ℕ))
+pub has_stopped : (options : CancelOptions) (named : List SerialRange) (serial : Option ℕ) (first : CancelError) (found last : KeptHead FileDevice) (was lost : Bool) (text b : Option (List ℕ))
     → named ≡ options.campaigns.items → (book_of found).head ≡ options.head
     → Stopped (serials_of (book_of found) named) serial first (head_of found) (head_of last) was lost text b → IfSome serial (λ (it : ℕ). HasStopped options it first)
 has_stopped options named None first found last was lost text b same number stops = tt
@@ -122,7 +134,7 @@ has_stopped options named (Some serial) first found last was lost text b same nu
 }
 
 -- the book can't be had
-pub none_stopped : (options : CancelOptions) (named : Option ℕ) (first : Fault) → named ≡ None → IfSome named (λ (it : ℕ). HasStopped options it first)
+pub none_stopped : (options : CancelOptions) (named : Option ℕ) (first : CancelError) → named ≡ None → IfSome named (λ (it : ℕ). HasStopped options it first)
 none_stopped options named first none = subst (λ (o : Option ℕ). IfSome o (λ (it : ℕ). HasStopped options it first)) (sym none) tt
 
 -- a campaign is named then
@@ -131,22 +143,18 @@ is_named None P is = absurd is
 is_named (Some serial) P is = refl
 
 -- want of memory isn't of a campaign
-pub memory_of_none : (f : Fault) → f ≡ fault.OutOfMemory → ¬ IsOfCampaign f
-memory_of_none f is of = subst IsOfCampaign is of
+pub memory_of_none : (e : CancelError) → e ≡ OutOfMemory → ¬ IsOfCampaign e
+memory_of_none e is of = subst IsOfCampaign is of
 
-pub old_in_cancel : (f : Fault) → IsOfOldBook f → IsOfCancel f
-old_in_cancel (fault.CancelRefused refusal) is = tt
-old_in_cancel fault.Full is = tt
-old_in_cancel f is = is
+-- no error of the opening of the book is
+book_of_none : (e : BookFileError) → ¬ IsOfCampaign (cancel_of_book e)
+book_of_none file.NoBook of = of
+book_of_none file.Locked of = of
+book_of_none file.BookFault of = of
+book_of_none (file.BadBook offset) of = of
+book_of_none (file.BadRecord index) of = of
+book_of_none file.ForeignHead of = of
+book_of_none file.OutOfMemory of = of
 
--- no fault of an old book is of a campaign
-pub old_of_none : (f : Fault) → IsOfOldBook f → ¬ IsOfCampaign f
-old_of_none (fault.CancelRefused refusal) is of = is
-old_of_none f is of = of
-
-pub cancelling_in_cancel : (f : Fault) → IsOfCancelling f → IsOfCancel f
-cancelling_in_cancel (fault.CancelRefused refusal) is = tt
-cancelling_in_cancel fault.BookFault is = tt
-cancelling_in_cancel fault.Full is = tt
-cancelling_in_cancel fault.OutOfMemory is = tt
-cancelling_in_cancel f is = absurd is
+pub unopened_of_none : (e : BookFileError) (told : CancelError) → told ≡ cancel_of_book e → ¬ IsOfCampaign told
+unopened_of_none e told is of = book_of_none e (subst IsOfCampaign is of)

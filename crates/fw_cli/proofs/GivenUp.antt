@@ -11,13 +11,11 @@ use Rattle.fw_kept.specs.Head.{book_of, head_of}
 use Rattle.fw_kept.specs.declared.head.KeptHead.{KeptHead}
 use Rattle.fw_plan.specs.Meters.{meters_of}
 use Rattle.fw_plan.specs.declared.meters.MeterRange.{MeterRange}
-use Rattle.fw_faults.specs.declared.fault.Fault.{Fault}
-use Rattle.fw_faults.specs.declared.fault.Fault.TheVariants as fault
 use Rattle.fw_rollout.specs.declared.ended.Ended.{Ended}
-use Rattle.fw_host.specs.Heads.{IsOfOldBook, ended_line}
+use Rattle.fw_host.specs.Heads.{ended_line}
 use Rattle.fw_host.specs.Telling.{Told, lines_of_rows}
 use Rattle.fw_host.proofs.Tellings.{told_on}
-use Rattle.fw_cli.specs.GivingUp.{AddsOne, AddsTold, GivesUpAll, GivesUpIn, GivesUpOne, HasGivenUp, IsOfGiveUp, IsOfGivingUp, Says, given_row}
+use Rattle.fw_cli.specs.GivingUp.{AddsOne, AddsTold, GivesUpAll, GivesUpIn, GivesUpOne, HasGivenUp, Says, given_row}
 use Rattle.fw_cli.specs.declared.give_up.GaveUp.{GaveUp}
 use Rattle.fw_cli.specs.declared.give_up.GiveUpOptions.{GiveUpOptions}
 
@@ -125,13 +123,3 @@ has_given_up options gave rows lacking left given same says = record {
   given = given;
   says = subst (λ (l : List ℕ). Says l gave) same says;
 }
-
-pub old_in_give_up : (f : Fault) → IsOfOldBook f → IsOfGiveUp f
-old_in_give_up fault.Full is = tt
-old_in_give_up f is = is
-
-pub giving_in_give_up : (f : Fault) → IsOfGivingUp f → IsOfGiveUp f
-giving_in_give_up fault.BookFault is = tt
-giving_in_give_up fault.Full is = tt
-giving_in_give_up fault.OutOfMemory is = tt
-giving_in_give_up f is = absurd is

@@ -1,10 +1,10 @@
--- Which faults of the command `head` come when, and which options they need.
-use Rattle.std.proofs.Common.{◌≡◌, ℕ, List, [], Bool, true, false, Option, Some, None, Result, Ok, Err, IfErr, Contains, inl, inr, refl, sym, subst, ap}
-use Rattle.std.specs.Prelude.{IsTrue, is_some, ◌⊎◌, ◌≢◌}
+-- Which errors of the command `head` come when, and which options they need.
+use Rattle.std.proofs.Common.{◌≡◌, ◌∙◌, ℕ, List, [], Option, Some, None, Contains, inl, inr, refl, sym, subst, ap}
+use Rattle.std.specs.Prelude.{IsTrue, is_some, ◌⊎◌, ◌≢◌, false}
 use Rattle.std.proofs.lemmas.List.Elements.{All-contains, All-nil}
 use Rattle.fw_book.specs.Contents.{Contents}
-use Rattle.fw_book.specs.declared.error.BookError.{BookError}
-use Rattle.fw_disk.specs.declared.reason.Because.{Because}
+use Rattle.fw_kept.specs.declared.error.KeptError.{KeptError}
+use Rattle.fw_kept.specs.declared.error.KeptError.TheVariants as kept
 use Rattle.fw_plan.specs.Ranges.{serials_of}
 use Rattle.fw_plan.specs.declared.part.Part.{Part}
 use Rattle.fw_plan.specs.declared.ranges.SerialRange.{SerialRange}
@@ -12,217 +12,95 @@ use Rattle.fw_rollout.specs.declared.error.Stop.{Stop}
 use Rattle.fw_rollout.specs.declared.error.Stop.TheVariants as stop
 use Rattle.fw_faults.specs.declared.fault.Fault.{Fault}
 use Rattle.fw_faults.specs.declared.fault.Fault.TheVariants as fault
-use Rattle.fw_faults.specs.Faults.{fault_of_stop}
-use Rattle.fw_host.specs.Captures.{IsOfCapture}
-use Rattle.fw_host.specs.declared.sealing.SealingOptions.{SealingOptions}
-use Rattle.fw_host.specs.Heads.{ComesBeforeLines, IsCancelFault, IsOfBook, IsOfHead, IsOfHeadSetup, IsOfNewBook, IsOfOldBook, IsOpenFault}
 use Rattle.fw_host.specs.Openings.{CancelsRefused, PartsRefused, RefusesOne, RefusesOneCancel}
-use Rattle.fw_cli.specs.Faults.{IsKeyed}
-use Rattle.fw_cli.specs.Heads.{IsAskedFor, IsOfBeginning, IsOfCancelling, IsOfJudging, IsOfOpened, IsOfOpening, IsOfOpeningSetup, IsOfStop}
-use Rattle.fw_cli.specs.Private.{fault_of_list_file}
+use Rattle.fw_host.specs.declared.error.BookFileError.{BookFileError}
+use Rattle.fw_host.specs.declared.error.BookFileError.TheVariants as old_book
+use Rattle.fw_host.specs.declared.error.CaptureFileError.{CaptureFileError}
+use Rattle.fw_host.specs.declared.error.CaptureFileError.TheVariants as capture
+use Rattle.fw_host.specs.declared.error.HeadKeysError.{HeadKeysError}
+use Rattle.fw_host.specs.declared.error.HeadKeysError.TheVariants as keys
+use Rattle.fw_host.specs.declared.error.NewBookError.{NewBookError}
+use Rattle.fw_host.specs.declared.error.NewBookError.TheVariants as new_book
+use Rattle.fw_host.specs.declared.error.NewCounterError.{NewCounterError}
+use Rattle.fw_host.specs.declared.error.NewCounterError.TheVariants as new_counter
+use Rattle.fw_cli.specs.Faults.{MakesCounter}
+use Rattle.fw_cli.specs.HeadErrors.{ComesBeforeLines, IsAskedFor, IsOfBeginning, IsOfJudging, IsOfLeading, IsOfOpened, IsOfOpening, IsOfOpeningSetup, head_of_capture, head_of_closing, head_of_keys, head_of_list, head_of_new_book, head_of_new_counter, head_of_old_book, head_of_sealing, head_of_stop, head_of_telling, judging_error, not_cancelled, not_opened}
+use Rattle.fw_cli.specs.Reasons.{IsClosingKeyed}
+use Rattle.fw_cli.specs.Sealing.{IsKeyed}
+use Rattle.fw_cli.specs.declared.error.ClosingError.{ClosingError}
+use Rattle.fw_cli.specs.declared.error.ClosingError.TheVariants as closing
 use Rattle.fw_cli.specs.declared.error.ListFileError.{ListFileError}
 use Rattle.fw_cli.specs.declared.error.ListFileError.TheVariants as list_file
+use Rattle.fw_cli.specs.declared.error.SealingError.{SealingError}
+use Rattle.fw_cli.specs.declared.error.SealingError.TheVariants as sealed
+use Rattle.fw_cli.specs.declared.error.TellingError.{TellingError}
+use Rattle.fw_cli.specs.declared.error.TellingError.TheVariants as telling
 use Rattle.fw_cli.specs.declared.head.HeadOptions.{HeadOptions}
-
--- ---- the book
-
-old_in_setup : (f : Fault) → IsOfOldBook f → IsOfHeadSetup f
-old_in_setup fault.ListFault is = tt
-old_in_setup (fault.BadList line) is = tt
-old_in_setup fault.ImageFault is = tt
-old_in_setup fault.BadSetup is = tt
-old_in_setup fault.Socket is = tt
-old_in_setup (fault.OpenRefused refusal) is = tt
-old_in_setup fault.BookExists is = tt
-old_in_setup (fault.CancelRefused refusal) is = tt
-old_in_setup fault.CaptureFault is = tt
-old_in_setup fault.ForeignCapture is = tt
-old_in_setup fault.KeysFault is = tt
-old_in_setup fault.KeysReadable is = tt
-old_in_setup (fault.BadKeys line why) is = tt
-old_in_setup (fault.NoKey meter) is = tt
-old_in_setup fault.NoCounter is = tt
-old_in_setup fault.CounterExists is = tt
-old_in_setup fault.CounterLocked is = tt
-old_in_setup fault.CounterFault is = tt
-old_in_setup f is = is
-
-new_in_setup : (f : Fault) → IsOfNewBook f → IsOfHeadSetup f
-new_in_setup fault.BookExists is = tt
-new_in_setup fault.Locked is = tt
-new_in_setup fault.BookFault is = tt
-new_in_setup fault.OutOfMemory is = tt
-new_in_setup f is = absurd is
-
-pub book_in_setup : (b : Bool) (f : Fault) → IsOfBook b f → IsOfHeadSetup f
-book_in_setup true f is = new_in_setup f is
-book_in_setup false f is = old_in_setup f is
-
-old_is_asked : (options : HeadOptions) (f : Fault) → options.book.is_new ≡ false → IsOfOldBook f → IsAskedFor options f
-old_is_asked options fault.NoBook e is = e
-old_is_asked options (fault.BadBook offset) e is = e
-old_is_asked options (fault.BadRecord index) e is = e
-old_is_asked options fault.ForeignHead e is = e
-old_is_asked options fault.Locked e is = tt
-old_is_asked options fault.BookFault e is = tt
-old_is_asked options fault.OutOfMemory e is = tt
-old_is_asked options f e is = absurd is
-
-new_is_asked : (options : HeadOptions) (f : Fault) → IsTrue options.book.is_new → IsOfNewBook f → IsAskedFor options f
-new_is_asked options fault.BookExists e is = e
-new_is_asked options fault.Locked e is = tt
-new_is_asked options fault.BookFault e is = tt
-new_is_asked options fault.OutOfMemory e is = tt
-new_is_asked options f e is = absurd is
-
-asked_by : (options : HeadOptions) (b : Bool) (f : Fault) → options.book.is_new ≡ b → IsOfBook b f → IsAskedFor options f
-asked_by options true f e is = new_is_asked options f (subst IsTrue (sym e) refl) is
-asked_by options false f e is = old_is_asked options f e is
-
-pub book_is_asked : (options : HeadOptions) (f : Fault) → IsOfBook options.book.is_new f → IsAskedFor options f
-book_is_asked options f is = asked_by options options.book.is_new f refl is
-
--- ---- what comes after the first line
-
-pub setup_in_head : (f : Fault) → IsOfHeadSetup f → IsOfHead f
-setup_in_head fault.Full is = tt
-setup_in_head fault.Output is = tt
-setup_in_head fault.CounterSpent is = tt
-setup_in_head (fault.TooManyFailed failed) is = tt
-setup_in_head f is = is
-
-pub record IsLater (options : HeadOptions) (f : Fault) : Type 0 where
-  pub of_head : IsOfHead f
-  pub asked : IsAskedFor options f
-  pub later : ¬ ComesBeforeLines f
-
-pub beginning : {X Y : Type 0} (options : HeadOptions) (cancels : List Y) (opened : Option X) (f : Fault) → (cancels ≢ [] → options.cancel.items ≢ [])
-    → (IsTrue (is_some opened) → IsTrue (is_some options.opening)) → IsOfBeginning cancels opened f → IsLater options f
-beginning {X} {Y} options cancels opened (fault.CancelRefused refusal) named asked is = record { of_head = tt; asked = named is; later = λ h. h }
-beginning {X} {Y} options cancels opened (fault.OpenRefused refusal) named asked is = record { of_head = tt; asked = asked is; later = λ h. h }
-beginning {X} {Y} options cancels opened fault.BookFault named asked is = record { of_head = tt; asked = tt; later = λ h. h }
-beginning {X} {Y} options cancels opened fault.Full named asked is = record { of_head = tt; asked = tt; later = λ h. h }
-beginning {X} {Y} options cancels opened fault.OutOfMemory named asked is = record { of_head = tt; asked = tt; later = λ h. h }
-beginning {X} {Y} options cancels opened f named asked is = absurd is
-
-pub cancelling : {X Y : Type 0} (cancels : List Y) (opened : Option X) (f : Fault) → cancels ≢ [] → IsOfCancelling f → IsOfBeginning cancels opened f
-cancelling {X} {Y} cancels opened (fault.CancelRefused refusal) some is = some
-cancelling {X} {Y} cancels opened fault.BookFault some is = tt
-cancelling {X} {Y} cancels opened fault.Full some is = tt
-cancelling {X} {Y} cancels opened fault.OutOfMemory some is = tt
-cancelling {X} {Y} cancels opened f some is = absurd is
-
-pub opening : {X Y : Type 0} (cancels : List Y) (opened : Option X) (f : Fault) → IsTrue (is_some opened) → IsOfOpening f → IsOfBeginning cancels opened f
-opening {X} {Y} cancels opened (fault.OpenRefused refusal) some is = some
-opening {X} {Y} cancels opened fault.BookFault some is = tt
-opening {X} {Y} cancels opened fault.Full some is = tt
-opening {X} {Y} cancels opened fault.OutOfMemory some is = tt
-opening {X} {Y} cancels opened f some is = absurd is
-
-pub line_lost : (options : HeadOptions) (f : Fault) → ((f ≡ fault.Output) ⊎ (f ≡ fault.OutOfMemory)) → IsLater options f
-line_lost options f (inl output) = subst (IsLater options) (sym output) (record { of_head = tt; asked = tt; later = λ h. h })
-line_lost options f (inr memory) = subst (IsLater options) (sym memory) (record { of_head = tt; asked = tt; later = λ h. h })
-
-pub stopped : (options : HeadOptions) (f : Fault) → (IsOfCapture f → IsTrue (is_some options.capture)) → IsKeyed options.sealing f → IsOfStop f → IsLater options f
-stopped options fault.CaptureFault asked keyed is = record { of_head = tt; asked = asked tt; later = λ h. h }
-stopped options fault.CounterFault asked keyed is = record { of_head = tt; asked = keyed; later = λ h. h }
-stopped options fault.CounterSpent asked keyed is = record { of_head = tt; asked = keyed; later = λ h. h }
-stopped options fault.Socket asked keyed is = record { of_head = tt; asked = tt; later = λ h. h }
-stopped options fault.BookFault asked keyed is = record { of_head = tt; asked = tt; later = λ h. h }
-stopped options fault.Full asked keyed is = record { of_head = tt; asked = tt; later = λ h. h }
-stopped options (fault.TooManyFailed failed) asked keyed is = record { of_head = tt; asked = tt; later = λ h. h }
-stopped options fault.OutOfMemory asked keyed is = record { of_head = tt; asked = tt; later = λ h. h }
-stopped options f asked keyed is = absurd is
-
-of_stop : (error : Stop) → IsOfStop (fault_of_stop error)
-of_stop stop.Closed = tt
-of_stop stop.Full = tt
-of_stop stop.BookFault = tt
-of_stop stop.OutOfMemory = tt
-
-stop_is_keyed : (s : Option SealingOptions) (error : Stop) → IsKeyed s (fault_of_stop error)
-stop_is_keyed s stop.Closed = tt
-stop_is_keyed s stop.Full = tt
-stop_is_keyed s stop.BookFault = tt
-stop_is_keyed s stop.OutOfMemory = tt
-
-pub stop_keyed : (s : Option SealingOptions) (error : Stop) (f : Fault) → f ≡ fault_of_stop error → IsKeyed s f
-stop_keyed s error f e = subst (λ (x : Fault). IsKeyed s x) (sym e) (stop_is_keyed s error)
-
-stop_captures_none : (error : Stop) → IsOfCapture (fault_of_stop error) → ⊥
-stop_captures_none stop.Closed captures = captures
-stop_captures_none stop.Full captures = captures
-stop_captures_none stop.BookFault captures = captures
-stop_captures_none stop.OutOfMemory captures = captures
-
-pub stop_is_no_capture : (error : Stop) (f : Fault) → f ≡ fault_of_stop error → IsOfCapture f → ⊥
-stop_is_no_capture error f e captures = stop_captures_none error (subst (λ (x : Fault). IsOfCapture x) e captures)
-
-pub stop_fault : (error : Stop) (f : Fault) → f ≡ fault_of_stop error → IsOfStop f
-stop_fault error f e = subst IsOfStop (sym e) (of_stop error)
-
-pub cancel_fault : (refusal : Option BookError) (f : Fault) → IsCancelFault refusal f → IsOfCancelling f
-cancel_fault refusal (fault.CancelRefused e) is = tt
-cancel_fault refusal fault.BookFault is = tt
-cancel_fault refusal fault.Full is = tt
-cancel_fault refusal fault.OutOfMemory is = tt
-cancel_fault refusal f is = absurd is
-
-pub open_fault : (refusal : Option BookError) (f : Fault) → IsOpenFault refusal f → IsOfOpening f
-open_fault refusal (fault.OpenRefused e) is = tt
-open_fault refusal fault.BookFault is = tt
-open_fault refusal fault.Full is = tt
-open_fault refusal fault.OutOfMemory is = tt
-open_fault refusal f is = absurd is
+use Rattle.fw_cli.specs.declared.head_error.HeadError.{HeadError}
+use Rattle.fw_cli.specs.declared.head_error.HeadError.TheVariants as head
+use Rattle.fw_cli.proofs.Linked.{some_makes}
 
 -- ---- what comes before the first line
 
-pub list_in_setup : (e : ListFileError) → IsOfHeadSetup (fault_of_list_file e)
-list_in_setup list_file.ListFault = tt
-list_in_setup (list_file.BadList line) = tt
-list_in_setup list_file.OutOfMemory = tt
-
-pub list_is_asked : (options : HeadOptions) (e : ListFileError) → IsAskedFor options (fault_of_list_file e)
+pub list_is_asked : (options : HeadOptions) (e : ListFileError) → IsAskedFor options (head_of_list e)
 list_is_asked options list_file.ListFault = tt
 list_is_asked options (list_file.BadList line) = tt
 list_is_asked options list_file.OutOfMemory = tt
 
-pub opening_in_setup : (f : Fault) → IsOfOpeningSetup f → IsOfHeadSetup f
-opening_in_setup fault.ImageFault is = tt
-opening_in_setup (fault.OpenRefused refusal) is = tt
-opening_in_setup fault.OutOfMemory is = tt
-opening_in_setup f is = absurd is
+pub opening_is_asked : (options : HeadOptions) (e : HeadError) → IsTrue (is_some options.opening) → IsOfOpeningSetup e → IsAskedFor options e
+opening_is_asked options head.ImageFault some is = some
+opening_is_asked options (head.OpenRefused refusal) some is = some
+opening_is_asked options head.OutOfMemory some is = tt
+opening_is_asked options e some is = absurd is
 
-pub opening_is_asked : (options : HeadOptions) (f : Fault) → IsTrue (is_some options.opening) → IsOfOpeningSetup f → IsAskedFor options f
-opening_is_asked options fault.ImageFault e is = e
-opening_is_asked options (fault.OpenRefused refusal) e is = e
-opening_is_asked options fault.OutOfMemory e is = tt
-opening_is_asked options f e is = absurd is
+pub keys_are_asked : (options : HeadOptions) (e : HeadKeysError) → IsTrue (is_some options.sealing) → IsAskedFor options (head_of_keys e)
+keys_are_asked options keys.KeysFault some = some
+keys_are_asked options keys.KeysReadable some = some
+keys_are_asked options (keys.BadKeys line why) some = some
+keys_are_asked options (keys.NoKey meter) some = some
+keys_are_asked options keys.OutOfMemory some = tt
 
--- ---- what is judged before a file is made
+pub sealing_is_asked : (options : HeadOptions) (e : SealingError) → IsKeyed options.sealing e → IsAskedFor options (head_of_sealing e)
+sealing_is_asked options sealed.NoCounter is = is
+sealing_is_asked options sealed.CounterExists is = is
+sealing_is_asked options sealed.CounterLocked is = is
+sealing_is_asked options sealed.CounterFault is = is
+sealing_is_asked options sealed.OutOfMemory is = tt
 
-pub absent_in_setup : (f : Fault) → (f ≡ fault.BookExists) ⊎ (f ≡ fault.BookFault) → IsOfHeadSetup f
-absent_in_setup f (inl e) = subst IsOfHeadSetup (sym e) tt
-absent_in_setup f (inr e) = subst IsOfHeadSetup (sym e) tt
+pub counters_are_asked : (options : HeadOptions) (e : NewCounterError) → MakesCounter options.sealing → IsAskedFor options (head_of_new_counter e)
+counters_are_asked options new_counter.CounterExists makes = makes
+counters_are_asked options new_counter.CounterLocked makes = some_makes options.sealing makes
+counters_are_asked options new_counter.CounterFault makes = some_makes options.sealing makes
+counters_are_asked options new_counter.OutOfMemory makes = tt
 
-pub absent_is_asked : (options : HeadOptions) (f : Fault) → IsTrue options.book.is_new → (f ≡ fault.BookExists) ⊎ (f ≡ fault.BookFault) → IsAskedFor options f
-absent_is_asked options f new (inl e) = subst (IsAskedFor options) (sym e) new
-absent_is_asked options f new (inr e) = subst (IsAskedFor options) (sym e) tt
+pub capture_is_asked : (options : HeadOptions) (e : CaptureFileError) → IsTrue (is_some options.capture) → IsAskedFor options (head_of_capture e)
+capture_is_asked options capture.CaptureFault asked = asked
+capture_is_asked options capture.ForeignCapture asked = asked
 
-pub judging_in_setup : {X Y : Type 0} (named : List Y) (opened : Option X) (f : Fault) → IsOfJudging named opened f → IsOfHeadSetup f
-judging_in_setup {X} {Y} named opened (fault.CancelRefused refusal) is = tt
-judging_in_setup {X} {Y} named opened fault.BadSetup is = tt
-judging_in_setup {X} {Y} named opened (fault.OpenRefused refusal) is = tt
-judging_in_setup {X} {Y} named opened fault.OutOfMemory is = tt
-judging_in_setup {X} {Y} named opened f is = absurd is
+pub old_is_asked : (options : HeadOptions) (e : BookFileError) → options.book.is_new ≡ false → IsAskedFor options (head_of_old_book e)
+old_is_asked options old_book.NoBook old = old
+old_is_asked options old_book.Locked old = tt
+old_is_asked options old_book.BookFault old = tt
+old_is_asked options (old_book.BadBook offset) old = old
+old_is_asked options (old_book.BadRecord index) old = old
+old_is_asked options old_book.ForeignHead old = old
+old_is_asked options old_book.OutOfMemory old = tt
 
-pub judging_is_asked : {X : Type 0} (options : HeadOptions) (opened : Option X) (f : Fault) → (IsTrue (is_some opened) → IsTrue (is_some options.opening))
-    → IsOfJudging options.cancel.items opened f → IsAskedFor options f
-judging_is_asked {X} options opened (fault.CancelRefused refusal) asked is = is
-judging_is_asked {X} options opened fault.BadSetup asked is = asked is
-judging_is_asked {X} options opened (fault.OpenRefused refusal) asked is = asked is
-judging_is_asked {X} options opened fault.OutOfMemory asked is = tt
-judging_is_asked {X} options opened f asked is = absurd is
+pub new_is_asked : (options : HeadOptions) (e : NewBookError) → IsTrue options.book.is_new → IsAskedFor options (head_of_new_book e)
+new_is_asked options new_book.BookExists new = new
+new_is_asked options new_book.Locked new = tt
+new_is_asked options new_book.BookFault new = tt
+new_is_asked options new_book.OutOfMemory new = tt
+
+pub judging_is_asked : {X : Type 0} (options : HeadOptions) (opened : Option X) (e : HeadError) → (IsTrue (is_some opened) → IsTrue (is_some options.opening))
+    → IsOfJudging options.cancel.items opened e → IsAskedFor options e
+judging_is_asked {X} options opened (head.CancelRefused refusal) asked is = is
+judging_is_asked {X} options opened head.BadSetup asked is = asked is
+judging_is_asked {X} options opened (head.OpenRefused refusal) asked is = asked is
+judging_is_asked {X} options opened head.OutOfMemory asked is = tt
+judging_is_asked {X} options opened e asked is = absurd is
+
+-- ---- what is judged
 
 -- nothing stands in an empty list
 contains_none : (n : ℕ) → Contains [] n → ⊥
@@ -233,33 +111,133 @@ refused_is_named : (book : Contents) (named : List SerialRange) (f : Fault) → 
 refused_is_named book named f one none = contains_none one.serial (subst (λ (l : List SerialRange). Contains (serials_of book l) one.serial) none one.within)
 
 cancel_is_judged : {X : Type 0} (book : Contents) (named : List SerialRange) (opened : Option X) (f : Fault) → RefusesOneCancel book (serials_of book named) f
-    → IsOfJudging named opened f
+    → IsOfJudging named opened (judging_error f)
 cancel_is_judged {X} book named opened f one =
-    let (e, is, why) = one.refused in subst (IsOfJudging named opened) (sym is) (refused_is_named book named f one)
+    let (e, is, why) = one.refused in subst (λ (x : Fault). IsOfJudging named opened (judging_error x)) (sym is) (refused_is_named book named f one)
 
-pub cancels_are_judged : {X : Type 0} (book : Contents) (named : List SerialRange) (opened : Option X) (f : Fault) → CancelsRefused book (serials_of book named) f
-    → IsOfJudging named opened f
-cancels_are_judged {X} book named opened fault.OutOfMemory is = tt
-cancels_are_judged {X} book named opened f is = cancel_is_judged book named opened f is
+cancels_fault : {X : Type 0} (book : Contents) (named : List SerialRange) (opened : Option X) (f : Fault) → CancelsRefused book (serials_of book named) f
+    → IsOfJudging named opened (judging_error f)
+cancels_fault {X} book named opened fault.OutOfMemory is = tt
+cancels_fault {X} book named opened f is = cancel_is_judged book named opened f is
 
-pub opened_is_judged : {X Y : Type 0} (named : List Y) (opened : Option X) (f : Fault) → IsOfOpened opened f → IsOfJudging named opened f
-opened_is_judged {X} {Y} named opened (fault.CancelRefused refusal) is = absurd is
-opened_is_judged {X} {Y} named opened f is = is
+pub cancels_are_judged : {X : Type 0} (book : Contents) (named : List SerialRange) (opened : Option X) (e : HeadError)
+    → ((f : Fault) × (e ≡ judging_error f) × CancelsRefused book (serials_of book named) f) → IsOfJudging named opened e
+cancels_are_judged {X} book named opened e (f, is, why) = subst (λ (x : HeadError). IsOfJudging named opened x) (sym is) (cancels_fault book named opened f why)
 
-pub parts_are_opened : {X : Type 0} (opened : Option X) (book : Contents) (serial : ℕ) (meters : List ℕ) (f : Fault) → IsTrue (is_some opened)
-    → PartsRefused book serial meters f → IsOfOpened opened f
-parts_are_opened {X} opened book serial meters fault.BadSetup some is = some
-parts_are_opened {X} opened book serial meters fault.OutOfMemory some is = tt
-parts_are_opened {X} opened book serial meters f some is = absurd is
+pub opened_is_judged : {X Y : Type 0} (named : List Y) (opened : Option X) (e : HeadError) → IsOfOpened opened e → IsOfJudging named opened e
+opened_is_judged {X} {Y} named opened (head.CancelRefused refusal) is = absurd is
+opened_is_judged {X} {Y} named opened e is = is
 
-pub refused_is_opened : {X : Type 0} (opened : Option X) (book : Contents) (image : List ℕ) (parts : List Part) (f : Fault) → IsTrue (is_some opened)
-    → RefusesOne book image parts f → IsOfOpened opened f
-refused_is_opened {X} opened book image parts f some one = let (e, is, why) = one.refused in subst (IsOfOpened opened) (sym is) some
+parts_fault : {X : Type 0} (opened : Option X) (book : Contents) (serial : ℕ) (meters : List ℕ) (f : Fault) → IsTrue (is_some opened) → PartsRefused book serial meters f
+    → IsOfOpened opened (judging_error f)
+parts_fault {X} opened book serial meters fault.BadSetup some is = some
+parts_fault {X} opened book serial meters fault.OutOfMemory some is = tt
+parts_fault {X} opened book serial meters f some is = absurd is
 
--- what is said of a fault is said of the one that is passed on
-pub passed_on : {A : Type 0} (r : Result A Fault) (P : Fault → Type 0) (e f : Fault) → r ≡ Err e → e ≡ f → P f → IfErr r P
-passed_on {A} r P e f was same is = subst (λ (x : Result A Fault). IfErr x P) (sym was) (subst P (sym same) is)
+pub parts_are_opened : {X : Type 0} (opened : Option X) (book : Contents) (serial : ℕ) (meters : List ℕ) (e : HeadError) → IsTrue (is_some opened)
+    → ((f : Fault) × (e ≡ judging_error f) × PartsRefused book serial meters f) → IsOfOpened opened e
+parts_are_opened {X} opened book serial meters e some (f, is, why) =
+    subst (λ (x : HeadError). IsOfOpened opened x) (sym is) (parts_fault opened book serial meters f some why)
 
--- so it is of a fault that is passed on with its reason, or without one
-pub passed_because : {A : Type 0} (r : Result A (Because Fault)) (P : Fault → Type 0) (b : Because Fault) (f : Fault) → r ≡ Err b → b.error ≡ f → P f → IfErr r (λ (b : Because Fault). P b.error)
-passed_because {A} r P b f was same is = subst (λ (x : Result A (Because Fault)). IfErr x (λ (b : Because Fault). P b.error)) (sym was) (subst P (sym same) is)
+pub refused_is_opened : {X : Type 0} (opened : Option X) (book : Contents) (image : List ℕ) (parts : List Part) (e : HeadError) → IsTrue (is_some opened)
+    → ((f : Fault) × (e ≡ judging_error f) × RefusesOne book image parts f) → IsOfOpened opened e
+refused_is_opened {X} opened book image parts e some (f, is, one) =
+    let (refusal, refused, why) = one.refused in
+    subst (λ (x : HeadError). IsOfOpened opened x) (sym (is ∙ ap (λ (x : Fault). judging_error x) refused)) some
+
+pub refused_is_opening : (book : Contents) (image : List ℕ) (parts : List Part) (e : HeadError) → ((f : Fault) × (e ≡ judging_error f) × RefusesOne book image parts f)
+    → IsOfOpening e
+refused_is_opening book image parts e (f, is, one) =
+    let (refusal, refused, why) = one.refused in
+    subst (λ (x : HeadError). IsOfOpening x) (sym (is ∙ ap (λ (x : Fault). judging_error x) refused)) tt
+
+-- ---- what comes after the first line
+
+pub record IsLater (options : HeadOptions) (e : HeadError) : Type 0 where
+  pub asked : IsAskedFor options e
+  pub later : ¬ ComesBeforeLines e
+
+pub not_opened_opening : (e : KeptError) → IsOfOpening (not_opened e)
+not_opened_opening (kept.Refused refusal) = tt
+not_opened_opening kept.Full = tt
+not_opened_opening kept.BookFault = tt
+not_opened_opening kept.OutOfMemory = tt
+
+pub cancelling : {X Y : Type 0} (cancels : List Y) (opened : Option X) (e : KeptError) → cancels ≢ [] → IsOfBeginning cancels opened (not_cancelled e)
+cancelling {X} {Y} cancels opened (kept.Refused refusal) some = some
+cancelling {X} {Y} cancels opened kept.Full some = tt
+cancelling {X} {Y} cancels opened kept.BookFault some = tt
+cancelling {X} {Y} cancels opened kept.OutOfMemory some = tt
+
+pub opening : {X Y : Type 0} (cancels : List Y) (opened : Option X) (e : HeadError) → IsTrue (is_some opened) → IsOfOpening e → IsOfBeginning cancels opened e
+opening {X} {Y} cancels opened (head.OpenRefused refusal) some is = some
+opening {X} {Y} cancels opened head.BookFault some is = tt
+opening {X} {Y} cancels opened head.Full some is = tt
+opening {X} {Y} cancels opened head.OutOfMemory some is = tt
+opening {X} {Y} cancels opened e some is = absurd is
+
+pub beginning : {X Y : Type 0} (options : HeadOptions) (cancels : List Y) (opened : Option X) (e : HeadError) → (cancels ≢ [] → options.cancel.items ≢ [])
+    → (IsTrue (is_some opened) → IsTrue (is_some options.opening)) → IsOfBeginning cancels opened e → IsLater options e
+beginning {X} {Y} options cancels opened (head.CancelRefused refusal) named asked is = record { asked = named is; later = λ h. h }
+beginning {X} {Y} options cancels opened (head.OpenRefused refusal) named asked is = record { asked = asked is; later = λ h. h }
+beginning {X} {Y} options cancels opened head.BookFault named asked is = record { asked = tt; later = λ h. h }
+beginning {X} {Y} options cancels opened head.Full named asked is = record { asked = tt; later = λ h. h }
+beginning {X} {Y} options cancels opened head.OutOfMemory named asked is = record { asked = tt; later = λ h. h }
+beginning {X} {Y} options cancels opened e named asked is = absurd is
+
+pub line_lost : (options : HeadOptions) (e : TellingError) → IsLater options (head_of_telling e)
+line_lost options telling.Output = record { asked = tt; later = λ h. h }
+line_lost options telling.OutOfMemory = record { asked = tt; later = λ h. h }
+
+pub files_lost : (options : HeadOptions) (e : HeadError) → e ≡ head.Output → IsLater options e
+files_lost options e is = subst (λ (x : HeadError). IsLater options x) (sym is) (record { asked = tt; later = λ h. h })
+
+pub no_memory : (options : HeadOptions) → IsLater options head.OutOfMemory
+no_memory options = record { asked = tt; later = λ h. h }
+
+pub stop_later : (options : HeadOptions) (s : Stop) → IsLater options (head_of_stop s)
+stop_later options stop.Closed = record { asked = tt; later = λ h. h }
+stop_later options stop.Full = record { asked = tt; later = λ h. h }
+stop_later options stop.BookFault = record { asked = tt; later = λ h. h }
+stop_later options stop.OutOfMemory = record { asked = tt; later = λ h. h }
+
+pub leading : (options : HeadOptions) (e : HeadError) → IsOfLeading options.capture options.sealing e → IsLater options e
+leading options head.CaptureFault is = record { asked = is; later = λ h. h }
+leading options head.CounterFault is = record { asked = is; later = λ h. h }
+leading options head.CounterSpent is = record { asked = is; later = λ h. h }
+leading options head.Socket is = record { asked = tt; later = λ h. h }
+leading options head.BookFault is = record { asked = tt; later = λ h. h }
+leading options head.Full is = record { asked = tt; later = λ h. h }
+leading options (head.TooManyFailed failed) is = record { asked = tt; later = λ h. h }
+leading options head.OutOfMemory is = record { asked = tt; later = λ h. h }
+leading options e is = absurd is
+
+-- ---- while it leads
+
+pub stop_leading : {A B : Type 0} (file : Option A) (links : Option B) (s : Stop) → IsOfLeading file links (head_of_stop s)
+stop_leading {A} {B} file links stop.Closed = tt
+stop_leading {A} {B} file links stop.Full = tt
+stop_leading {A} {B} file links stop.BookFault = tt
+stop_leading {A} {B} file links stop.OutOfMemory = tt
+
+plain_is_leading : {A B : Type 0} (file : Option A) (links : Option B) (e : ClosingError) → (e ≡ closing.CaptureFault → IsTrue (is_some file))
+    → (e ≡ closing.Socket) ⊎ (e ≡ closing.CaptureFault) → IsOfLeading file links (head_of_closing e)
+plain_is_leading {A} {B} file links e asked (inl socket) = subst (λ (x : ClosingError). IsOfLeading file links (head_of_closing x)) (sym socket) tt
+plain_is_leading {A} {B} file links e asked (inr capture_bad) = subst (λ (x : ClosingError). IsOfLeading file links (head_of_closing x)) (sym capture_bad) (asked capture_bad)
+
+pub plain_leading : {A B : Type 0} (file : Option A) (links : Option B) (e : ClosingError) (told : HeadError) → told ≡ head_of_closing e
+    → (e ≡ closing.CaptureFault → IsTrue (is_some file)) → (e ≡ closing.Socket) ⊎ (e ≡ closing.CaptureFault) → IsOfLeading file links told
+plain_leading {A} {B} file links e told is asked plain =
+    subst (λ (x : HeadError). IsOfLeading file links x) (sym is) (plain_is_leading file links e asked plain)
+
+closing_is_leading : {A B : Type 0} (file : Option A) (links : Option B) (e : ClosingError) → (e ≡ closing.CaptureFault → IsTrue (is_some file)) → IsClosingKeyed links e
+    → IsOfLeading file links (head_of_closing e)
+closing_is_leading {A} {B} file links closing.Socket asked keyed = tt
+closing_is_leading {A} {B} file links closing.CaptureFault asked keyed = asked refl
+closing_is_leading {A} {B} file links closing.CounterFault asked keyed = keyed
+closing_is_leading {A} {B} file links closing.CounterSpent asked keyed = keyed
+
+pub closing_leading : {A B : Type 0} (file : Option A) (links : Option B) (e : ClosingError) (told : HeadError) → told ≡ head_of_closing e
+    → (e ≡ closing.CaptureFault → IsTrue (is_some file)) → IsClosingKeyed links e → IsOfLeading file links told
+closing_leading {A} {B} file links e told is asked keyed =
+    subst (λ (x : HeadError). IsOfLeading file links x) (sym is) (closing_is_leading file links e asked keyed)

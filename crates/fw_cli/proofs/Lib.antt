@@ -12,7 +12,7 @@ pub mod HeadLeading
 pub mod Begun
 pub mod Cancels
 pub mod GivenUp
-pub mod Captured
+pub mod Brought
 pub mod Sayings
 pub mod Fleeting
 pub mod Linked

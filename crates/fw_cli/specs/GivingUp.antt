@@ -1,4 +1,4 @@
--- Public vocabulary: what `give-up` leaves of a book, what it tells, and its faults.
+-- Public vocabulary: what `give-up` leaves of a book, what it tells, and the fault that each of its errors is.
 use Rattle.std.specs.Prelude.{◌≡◌, ◌≢◌, ℕ, List, [], ◌∷◌, ◌++◌, Option, Some, None}
 use Rattle.fw_head.specs.Head.{Head, GivesUpRow, row_of}
 use Rattle.fw_head.specs.declared.giving_up.GivenUp.{GivenUp}
@@ -10,8 +10,11 @@ use Rattle.fw_ledger.specs.declared.record.Ending.TheVariants.{Failed}
 use Rattle.fw_plan.specs.Meters.{meters_of}
 use Rattle.fw_rollout.specs.declared.ended.Ended.{Ended}
 use Rattle.fw_faults.specs.declared.fault.Fault.{Fault}
-use Rattle.fw_faults.specs.declared.fault.Fault.TheVariants.{BookFault, Full, OutOfMemory}
-use Rattle.fw_host.specs.Heads.{IsOfOldBook}
+use Rattle.fw_faults.specs.declared.fault.Fault.TheVariants as fault
+use Rattle.fw_host.specs.declared.error.BookFileError.{BookFileError}
+use Rattle.fw_host.specs.declared.error.BookFileError.TheVariants as file
+use Rattle.fw_cli.specs.declared.give_up.GiveUpError.{GiveUpError}
+use Rattle.fw_cli.specs.declared.give_up.GiveUpError.TheVariants.{NoBook, Locked, BookFault, BadBook, BadRecord, ForeignHead, Full, OutOfMemory}
 use Rattle.fw_cli.specs.declared.give_up.GiveUpOptions.{GiveUpOptions}
 use Rattle.fw_cli.specs.declared.give_up.GaveUp.{GaveUp}
 use Rattle.fw_cli.specs.declared.give_up.GaveUp.TheVariants.{Each, NotEach}
@@ -68,14 +71,23 @@ pub record HasGivenUp (options : GiveUpOptions) (gave : GaveUp) : Type 0 where
   pub given : GivesUpIn options rows lacking
   pub says : Says lacking gave
 
--- of rows of an open book
-abbrev pub IsOfGivingUp : Fault → Type 0
-IsOfGivingUp BookFault = Unit {0}
-IsOfGivingUp Full = Unit {0}
-IsOfGivingUp OutOfMemory = Unit {0}
-IsOfGivingUp fault = ⊥
+-- why the command ended early, if its book wasn't opened
+abbrev pub give_up_of_book : BookFileError → GiveUpError
+give_up_of_book file.NoBook = NoBook
+give_up_of_book file.Locked = Locked
+give_up_of_book file.BookFault = BookFault
+give_up_of_book (file.BadBook offset) = BadBook offset
+give_up_of_book (file.BadRecord index) = BadRecord index
+give_up_of_book file.ForeignHead = ForeignHead
+give_up_of_book file.OutOfMemory = OutOfMemory
 
--- of `give-up`
-abbrev pub IsOfGiveUp : Fault → Type 0
-IsOfGiveUp Full = Unit {0}
-IsOfGiveUp fault = IsOfOldBook fault
+-- the fault that says why
+abbrev pub fault_of_give_up : GiveUpError → Fault
+fault_of_give_up NoBook = fault.NoBook
+fault_of_give_up Locked = fault.Locked
+fault_of_give_up BookFault = fault.BookFault
+fault_of_give_up (BadBook offset) = fault.BadBook offset
+fault_of_give_up (BadRecord index) = fault.BadRecord index
+fault_of_give_up ForeignHead = fault.ForeignHead
+fault_of_give_up Full = fault.Full
+fault_of_give_up OutOfMemory = fault.OutOfMemory

@@ -3,8 +3,6 @@ use Rattle.std.specs.Prelude.{ℕ, List, IsSomeAnd}
 use Rattle.std.specs.declared.net.socket_addr.SocketAddr.{SocketAddr}
 use Rattle.fw_book.specs.Contents.{Contents}
 use Rattle.fw_book.specs.declared.error.BookError.TheVariants.{MeterBusy}
-use Rattle.fw_faults.specs.declared.fault.Fault.{Fault}
-use Rattle.fw_faults.specs.declared.fault.Fault.TheVariants.{BadList, OpenRefused, TooManyFailed}
 use Rattle.fw_host.specs.Busy.{IsFirstBusy}
 use Rattle.fw_host.specs.ListCauses.{HasCause}
 use Rattle.fw_host.specs.declared.busy.BusyMeter.{BusyMeter}
@@ -18,6 +16,8 @@ use Rattle.fw_plan.specs.declared.gate.WaveRow.{WaveRow}
 use Rattle.fw_plan.specs.declared.rows.WaveMeter.{WaveMeter}
 use Rattle.fw_plan.specs.declared.threshold.MaxFailed.{MaxFailed}
 use Rattle.fw_cli.specs.declared.head.HeadOptions.{HeadOptions}
+use Rattle.fw_cli.specs.declared.head_error.HeadError.{HeadError}
+use Rattle.fw_cli.specs.declared.head_error.HeadError.TheVariants.{BadList, OpenRefused, TooManyFailed}
 use Rattle.fw_cli.specs.declared.input_cause.InputCause.{InputCause}
 use Rattle.fw_cli.specs.declared.input_cause.InputCause.TheVariants.{Busy, Failed, Line}
 use Rattle.fw_cli.specs.declared.keys.KeyMakingError.{KeyMakingError}
@@ -42,12 +42,12 @@ IsStopOf max_failed rows stop = IsGate max_failed rows (gate.TooManyFailed stop)
 abbrev pub IsOfWaves : MaxFailed → Stopped → Type 0
 IsOfWaves max_failed stop = (book : Contents) × (meters : List WaveMeter) × IsStopOf max_failed (wave_rows book meters) stop
 
--- why a head end with these options ended by this fault
-abbrev pub IsCauseOf : HeadOptions → Fault → InputCause → Type 0
+-- why a head end with these options ended by this error
+abbrev pub IsCauseOf : HeadOptions → HeadError → InputCause → Type 0
 IsCauseOf options (BadList line) (Line cause) = IsOfText options.listen cause
 IsCauseOf options (OpenRefused MeterBusy) (Busy busy) = IsSomeAnd options.opening (λ opening. IsOfBook opening busy)
 IsCauseOf options (TooManyFailed failed) (Failed stop) = IsOfWaves options.max_failed stop
-IsCauseOf options fault cause = ⊥
+IsCauseOf options error cause = ⊥
 
 -- why keys for the meters of a list weren't made
 abbrev pub IsCauseOfKeys : SocketAddr → KeyMakingError → InputCause → Type 0

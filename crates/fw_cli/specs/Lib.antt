@@ -9,6 +9,7 @@ pub mod Capturing
 pub mod Replaying
 pub mod Rehearsing
 pub mod Scripts
+pub mod HeadErrors
 pub mod Heads
 pub mod InputCauses
 pub mod Beginning
@@ -16,6 +17,7 @@ pub mod Surveying
 pub mod Cancelling
 pub mod GivingUp
 pub mod Keying
+pub mod MeterErrors
 pub mod Laws
 -- For private clauses alone: no public clause cites it.
 pub mod Private

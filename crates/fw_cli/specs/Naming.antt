@@ -3,8 +3,8 @@
 use Rattle.std.specs.Prelude.{ℕ, ◌≤◌, List, ◌++◌, length, Option, codes}
 use Rattle.std.specs.Io.KnownBytes.{Appends}
 use Rattle.hex.specs.Hex.{encode_lower}
+use Rattle.fw_blocks.specs.Cuts.{max_image}
 use Rattle.fw_names.specs.Name.{Campaign, SpellsName, name_of}
-use Rattle.fw_book.specs.Contents.{max_image}
 use Rattle.fw_faults.specs.Reading.{ReadsAll}
 use Rattle.fw_faults.specs.declared.fault.Fault.{Fault}
 use Rattle.fw_faults.specs.declared.fault.Fault.TheVariants as fault

@@ -8,6 +8,8 @@ use Rattle.fw_faults.specs.declared.fault.Fault.{Fault}
 use Rattle.fw_faults.specs.declared.fault.Fault.TheVariants as fault
 use Rattle.fw_host.specs.declared.error.ListError.{ListError}
 use Rattle.fw_host.specs.declared.error.ListError.TheVariants as list
+use Rattle.fw_kept.specs.declared.error.KeptError.{KeptError}
+use Rattle.fw_kept.specs.declared.error.KeptError.TheVariants as kept
 use Rattle.fw_world.specs.declared.event.Event.{Event as Given}
 use Rattle.fw_world.specs.declared.setup.Setup.{Setup}
 use Rattle.fw_world.specs.Setup.{IsSetup}
@@ -21,6 +23,10 @@ use Rattle.fw_cli.specs.declared.error.FileError.{FileError}
 use Rattle.fw_cli.specs.declared.error.FileError.TheVariants as file
 use Rattle.fw_cli.specs.declared.error.ListFileError.{ListFileError}
 use Rattle.fw_cli.specs.declared.error.ListFileError.TheVariants as list_file
+use Rattle.fw_cli.specs.declared.give_up.CommitError.{CommitError}
+use Rattle.fw_cli.specs.declared.give_up.CommitError.TheVariants as commit
+use Rattle.fw_cli.specs.declared.give_up.GiveUpError.{GiveUpError}
+use Rattle.fw_cli.specs.declared.give_up.GiveUpError.TheVariants as give_up
 use Rattle.fw_cli.specs.declared.replay.Air.{Air}
 use Rattle.fw_cli.specs.declared.trace.TraceError.{TraceError}
 use Rattle.fw_cli.specs.declared.trace.TraceError.TheVariants as trace
@@ -42,6 +48,19 @@ of_file file.OutOfMemory = list_file.OutOfMemory
 abbrev pub of_list : ListError → ListFileError
 of_list (list.BadList line) = list_file.BadList line
 of_list list.OutOfMemory = list_file.OutOfMemory
+
+-- why no rows are given up in an open book, for what its commit is refused for: the book itself refuses none
+abbrev pub commit_error : KeptError → CommitError
+commit_error (kept.Refused refusal) = commit.BookFault
+commit_error kept.Full = commit.Full
+commit_error kept.BookFault = commit.BookFault
+commit_error kept.OutOfMemory = commit.OutOfMemory
+
+-- why the command ended early then
+abbrev pub give_up_of_commit : CommitError → GiveUpError
+give_up_of_commit commit.Full = give_up.Full
+give_up_of_commit commit.BookFault = give_up.BookFault
+give_up_of_commit commit.OutOfMemory = give_up.OutOfMemory
 
 -- the fault that says why no list is read from a file
 abbrev pub fault_of_list_file : ListFileError → Fault

@@ -1,13 +1,19 @@
 -- For private clauses alone: the links that a meter and a head end are served over, where their options give keys, and their counters.
-use Rattle.std.specs.Prelude.{◌≡◌, ℕ, List, Option, None, Some, true, false, ◌⊎◌}
+use Rattle.std.specs.Prelude.{◌≡◌, ℕ, List, Option, None, Some, IsTrue, is_some}
 use Rattle.std.specs.Option.{option_map}
 use Rattle.std.specs.declared.net.socket_addr.SocketAddr.{SocketAddr}
-use Rattle.fw_faults.specs.declared.fault.Fault.{Fault}
-use Rattle.fw_host.specs.Sealings.{HasHeadLinks, HasMeterLinks, IsOfCounters}
+use Rattle.fw_host.specs.Sealings.{HasHeadLinks, HasMeterLinks}
+use Rattle.fw_host.specs.declared.error.CounterFileError.{CounterFileError}
+use Rattle.fw_host.specs.declared.error.CounterFileError.TheVariants as old_counter
+use Rattle.fw_host.specs.declared.error.NewCounterError.{NewCounterError}
+use Rattle.fw_host.specs.declared.error.NewCounterError.TheVariants as new_counter
 use Rattle.fw_host.specs.declared.sealing.Sealing.{Sealing}
 use Rattle.fw_host.specs.declared.sealing.SealingOptions.{SealingOptions}
 use Rattle.fw_rollout.specs.declared.link.Listed.{Listed}
 use Rattle.fw_sealport.specs.declared.links.Links.{Links}
+use Rattle.fw_cli.specs.Faults.{FindsCounter, MakesCounter}
+use Rattle.fw_cli.specs.declared.error.SealingError.{SealingError}
+use Rattle.fw_cli.specs.declared.error.SealingError.TheVariants.{NoCounter, CounterExists, CounterLocked, CounterFault, OutOfMemory}
 use Rattle.fw_cli.specs.declared.sealing.JudgedSealing.{JudgedSealing}
 use Rattle.fw_cli.specs.declared.sealing.JudgedSealing.TheVariants.{Plain, Found, New}
 use Rattle.fw_cli.specs.declared.sealing.Keyed.{Keyed}
@@ -43,6 +49,23 @@ abbrev pub AreMade : JudgedSealing → Type 0
 AreMade (New keyed) = Unit {0}
 AreMade judged = ⊥
 
--- of counters that are there, or that are made
-abbrev pub IsOfCounter : Fault → Type 0
-IsOfCounter fault = IsOfCounters true fault ⊎ IsOfCounters false fault
+-- what is of counters comes where keys are given, and these counters are wanted
+abbrev pub IsKeyed : Option SealingOptions → SealingError → Type 0
+IsKeyed options NoCounter = FindsCounter options
+IsKeyed options CounterExists = MakesCounter options
+IsKeyed options CounterLocked = IsTrue (is_some options)
+IsKeyed options CounterFault = IsTrue (is_some options)
+IsKeyed options OutOfMemory = Unit {0}
+
+-- why there are no counters, if they are to be made, or to be there
+abbrev pub sealing_of_new : NewCounterError → SealingError
+sealing_of_new new_counter.CounterExists = CounterExists
+sealing_of_new new_counter.CounterLocked = CounterLocked
+sealing_of_new new_counter.CounterFault = CounterFault
+sealing_of_new new_counter.OutOfMemory = OutOfMemory
+
+abbrev pub sealing_of_old : CounterFileError → SealingError
+sealing_of_old old_counter.NoCounter = NoCounter
+sealing_of_old old_counter.CounterLocked = CounterLocked
+sealing_of_old old_counter.CounterFault = CounterFault
+sealing_of_old old_counter.OutOfMemory = OutOfMemory

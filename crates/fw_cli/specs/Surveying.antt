@@ -4,7 +4,7 @@ use Rattle.std.specs.Io.KnownBytes.{Appends}
 use Rattle.std.specs.List.{list_all}
 use Rattle.std.specs.declared.net.socket_addr.SocketAddr.{SocketAddr}
 use Rattle.sha2.specs.Sha256.{sha256}
-use Rattle.fw_book.specs.Contents.{max_image}
+use Rattle.fw_blocks.specs.Cuts.{max_image}
 use Rattle.fw_faults.specs.declared.fault.Fault.{Fault}
 use Rattle.fw_faults.specs.declared.fault.Fault.TheVariants as fault
 use Rattle.fw_host.specs.Lists.{SpellsList}

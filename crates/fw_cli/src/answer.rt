@@ -11,10 +11,10 @@ ghost use Rattle.fw_cli.specs.Faults.{ComesBeforeOutput};
 ghost use Rattle.fw_cli.specs.Answering.{Answers, fault_of_answer};
 
 use crate::serving::serve;
-use fw_blocks::MAX_BLOCK_SIZE;
+use fw_blocks::{MAX_BLOCK_SIZE, MAX_IMAGE_SIZE};
 use fw_faults::Fault;
 use fw_meter::MeterCore;
-use fw_store::{MAX_CAPACITY, MemoryStore, SetupError};
+use fw_store::{MemoryStore, SetupError};
 use fw_text::hexadecimal::{bytes_of, is_hexadecimal};
 use std::alloc::Global;
 use std::fmt;
@@ -205,6 +205,6 @@ fn is_setup(block_size: u64, capacity: u64, size: usize) -> bool
     ensures { (bytes : List ℕ) → length bytes ≡ size → IsTrue result ↔ IsSetup Two block_size capacity bytes }
 {
     let block_fits = (1..=u64::from(MAX_BLOCK_SIZE)).contains(&block_size);
-    let room_fits = (1..=u64::from(MAX_CAPACITY)).contains(&capacity);
+    let room_fits = (1..=u64::from(MAX_IMAGE_SIZE)).contains(&capacity);
     block_fits && room_fits && size > 0 && size as u64 <= capacity
 }

@@ -1,23 +1,36 @@
 //! What a head end cancels and opens in its book: it is judged before anything is written, and done once datagrams are received.
 
-ghost use Rattle.std.specs.Prelude.{◌≡◌, ◌≢◌, [], IfErr, IfOk, OnErr, OnOk, Some};
+ghost use Rattle.std.specs.Prelude.{◌≡◌, ◌≢◌, [], All, IfErr, IfOk, OnErr, OnOk, Some};
+ghost use Rattle.fw_faults.specs.declared.fault.Fault.{Fault};
 ghost use Rattle.fw_head.specs.Head.{opened_head};
 ghost use Rattle.fw_kept.specs.Head.{head_of};
+ghost use Rattle.fw_plan.specs.Openings.{AreParts, lacking};
+ghost use Rattle.fw_plan.specs.Ranges.{serials_of};
+ghost use Rattle.fw_host.specs.Openings.{CancelsRefused, IsCancelledBy, IsTakenBy, PartsRefused, RefusesOne, listed_meters};
 ghost use Rattle.fw_host.specs.Waves.{listed_in};
 ghost use Rattle.fw_cli.specs.Beginning.{AreChanges, AreOpenings, Begins, IsOpeningOf, opened_all};
 ghost use Rattle.fw_cli.specs.Cancelling.{cancelled_all};
-ghost use Rattle.fw_cli.specs.Heads.{IsOfBeginning, IsOfCancelling, IsOfJudging, IsOfOpened, IsOfOpening, IsOfOpeningSetup};
+ghost use Rattle.fw_cli.specs.HeadErrors.{
+  IsOfBeginning,
+  IsOfJudging,
+  IsOfOpened,
+  IsOfOpening,
+  IsOfOpeningSetup,
+  judging_error,
+  not_cancelled,
+  not_opened,
+};
 ghost use Rattle.fw_cli.specs.Judging.{AreTaken, IsJudged};
 ghost use Rattle.fw_cli.specs.Telling.{TellsChanges};
 
 use crate::error::FileError;
-use crate::head::{Asked, bytes_of_file, cancel_one, of_book};
+use crate::head::{Asked, bytes_of_file, cancel_one};
+use crate::head_error::{HeadError, HeadFailure};
 use fw_book::{Book, BookError};
-use fw_disk::Because;
 use fw_faults::Fault;
-use fw_host::{Lines, Opening, cancels_of, check_parts, date, open_part, parts_of};
+use fw_host::{Lines, Opening, cancels_of, check_parts, date, parts_of};
 use fw_journal::FileDevice;
-use fw_kept::KeptHead;
+use fw_kept::{KeptError, KeptHead};
 use fw_plan::{Part, SerialRange};
 use fw_rollout::Listed;
 use std::alloc::Global;
@@ -60,19 +73,19 @@ pub(crate) fn opened_of<F: Files<File = File> + Clock>(
     alloc: Global,
     opening: Opening<'_>,
     list: &[Listed],
-) -> Result<Opened, Fault>
+) -> Result<Opened, HeadError>
     ensures opened { IfOk result (λ opened. IsOpeningOf (Some opening.entry) (Some opened)) }
-    ensures empty { list.now ≡ [] → IfErr result (λ f. f ≡ Fault.OpenRefused BookError.NoMeters) }
+    ensures empty { list.now ≡ [] → IfErr result (λ e. e ≡ HeadError.OpenRefused BookError.NoMeters) }
     ensures faults { IfErr result IsOfOpeningSetup }
 {
     if list.is_empty() {
-        return Err(Fault::OpenRefused(BookError::NoMeters));
+        return Err(HeadError::OpenRefused(BookError::NoMeters));
     }
     let image = match bytes_of_file(rt, alloc, opening.image) {
         Ok(image) => image,
-        Err(FileError::Unread) => return Err(Fault::ImageFault),
-        Err(FileError::TooLong) => return Err(Fault::OpenRefused(BookError::ImageTooLong)),
-        Err(FileError::OutOfMemory) => return Err(Fault::OutOfMemory),
+        Err(FileError::Unread) => return Err(HeadError::ImageFault),
+        Err(FileError::TooLong) => return Err(HeadError::OpenRefused(BookError::ImageTooLong)),
+        Err(FileError::OutOfMemory) => return Err(HeadError::OutOfMemory),
     };
     Ok(Opened {
         serial: opening.serial,
@@ -89,24 +102,79 @@ pub(crate) fn judge(
     book: &Book,
     named: &[SerialRange],
     asked: &Asked,
-) -> Result<Changes, Fault>
+) -> Result<Changes, HeadError>
     ensures changes { IfOk result (λ changes. AreChanges book.now named.now asked.now.opened (listed_in asked.now.list) changes) }
     ensures judged { IfOk result (λ changes. IsJudged book.now asked.now.opened changes) }
     ensures faults { IfErr result (IsOfJudging named.now asked.now.opened) }
 {
-    let cancels = cancels_of(alloc, book, named)?;
+    let cancels = cancelled_of(alloc, book, named)?;
     let parts = missing_of(alloc, book, asked)?;
     check_opened(book, &cancels, &parts, asked)?;
     Ok(Changes { cancels, parts })
 }
 
+/// The serial numbers of the campaigns that these name in a book, which lets each of them be cancelled.
+fn cancelled_of(alloc: Global, book: &Book, named: &[SerialRange]) -> Result<Vec<u32>, HeadError>
+    ensures serials { IfOk result (λ serials. serials.items ≡ serials_of book.now named.now) }
+    ensures admitted { IfOk result (λ serials. All (IsCancelledBy book.now) serials.items) }
+    ensures refused { IfErr result (λ e. (fault : Fault) × (e ≡ judging_error fault) × CancelsRefused book.now (serials_of book.now named.now) fault) }
+{
+    match cancels_of(alloc, book, named) {
+        Ok(serials) => Ok(serials),
+        Err(fault) => Err(judging_error(fault)),
+    }
+}
+
+/// The campaigns that a book lacks for the meters of this list, as [`parts_of`] has them.
+fn lacking_of(
+    alloc: Global,
+    book: &Book,
+    serial: u32,
+    release: u32,
+    image: &[u8],
+    list: &[Listed],
+) -> Result<Vec<Part>, HeadError>
+    ensures parts { IfOk result (λ parts. AreParts book.now serial (lacking book.now serial release image.now (listed_meters list.now)) parts.items) }
+    ensures refused { IfErr result (λ e. (fault : Fault) × (e ≡ judging_error fault)
+        × PartsRefused book.now serial (lacking book.now serial release image.now (listed_meters list.now)) fault) }
+{
+    match parts_of(alloc, book, serial, release, image, list) {
+        Ok(parts) => Ok(parts),
+        Err(fault) => Err(judging_error(fault)),
+    }
+}
+
+/// Checks that a book takes each of these campaigns of this image.
+fn check_all(book: &Book, parts: &[Part], image: &[u8]) -> Result<(), HeadError>
+    ensures taken { OnOk result (All (IsTakenBy book.now image.now) parts.now) }
+    ensures refused { IfErr result (λ e. (fault : Fault) × (e ≡ judging_error fault) × RefusesOne book.now image.now parts.now fault) }
+{
+    match check_parts(book, parts, image) {
+        Ok(()) => Ok(()),
+        Err(fault) => Err(judging_error(fault)),
+    }
+}
+
+/// Why nothing is led, if something isn't let be cancelled or opened.
+fn judging_error(fault: Fault) -> HeadError
+    ensures { result ≡ judging_error fault }
+{
+    match fault {
+        Fault::BadSetup => HeadError::BadSetup,
+        Fault::OpenRefused(refusal) => HeadError::OpenRefused(refusal),
+        Fault::CancelRefused(refusal) => HeadError::CancelRefused(refusal),
+        // No other comes of it.
+        _ => HeadError::OutOfMemory,
+    }
+}
+
 /// The campaigns of what is opened that a book lacks for the meters of the list. There are none if nothing is opened.
-fn missing_of(alloc: Global, book: &Book, asked: &Asked) -> Result<Vec<Part>, Fault>
+fn missing_of(alloc: Global, book: &Book, asked: &Asked) -> Result<Vec<Part>, HeadError>
     ensures parts { IfOk result (λ parts. AreOpenings asked.now.opened (listed_in asked.now.list) book.now parts.items) }
     ensures faults { IfErr result (IsOfOpened asked.now.opened) }
 {
     match &asked.opened {
-        Some(opened) => parts_of(
+        Some(opened) => lacking_of(
             alloc,
             book,
             opened.serial,
@@ -119,7 +187,12 @@ fn missing_of(alloc: Global, book: &Book, asked: &Asked) -> Result<Vec<Part>, Fa
 }
 
 /// Checks that a book takes each of these campaigns of what is opened, if none is cancelled first.
-fn check_opened(book: &Book, cancels: &[u32], parts: &[Part], asked: &Asked) -> Result<(), Fault>
+fn check_opened(
+    book: &Book,
+    cancels: &[u32],
+    parts: &[Part],
+    asked: &Asked,
+) -> Result<(), HeadError>
     ensures taken { OnOk result (cancels.now ≡ [] → AreTaken book.now asked.now.opened parts.now) }
     ensures faults { IfErr result (IsOfOpened asked.now.opened) }
 {
@@ -127,7 +200,7 @@ fn check_opened(book: &Book, cancels: &[u32], parts: &[Part], asked: &Asked) -> 
         return Ok(());
     }
     match &asked.opened {
-        Some(opened) => check_parts(book, parts, &opened.image),
+        Some(opened) => check_all(book, parts, &opened.image),
         None => Ok(()),
     }
 }
@@ -139,16 +212,16 @@ pub(crate) fn begin<W: Write>(
     kept: &mut KeptHead<FileDevice>,
     changes: Changes,
     opened: Option<Opened>,
-) -> Result<(), Because<Fault>>
+) -> Result<(), HeadFailure>
     ensures begins { OnOk result (Begins changes opened (head_of kept.old) (head_of kept.new)) }
     ensures writer { lines.new.writer.ghost_name ≡ lines.old.writer.ghost_name }
     ensures told { TellsChanges (head_of kept.old) (head_of kept.new) lines.old.lost lines.new.lost (W.contents lines.old.writer.now)
         (W.contents lines.new.writer.now) }
-    ensures faults { IfErr result (λ b. IsOfBeginning changes.cancels.items opened b.error) }
+    ensures faults { IfErr result (λ f. IsOfBeginning changes.cancels.items opened f.error) }
 {
     match cancel_and_open(alloc, lines, kept, &changes, opened) {
         Ok(()) => Ok(()),
-        Err(fault) => Err(of_book(Because::from(fault), kept.device())),
+        Err(error) => Err(HeadFailure::from(error).of_book(kept.device())),
     }
 }
 
@@ -159,17 +232,32 @@ fn cancel_and_open<W: Write>(
     kept: &mut KeptHead<FileDevice>,
     changes: &Changes,
     opened: Option<Opened>,
-) -> Result<(), Fault>
+) -> Result<(), HeadError>
     ensures begins { OnOk result (Begins changes.now opened (head_of kept.old) (head_of kept.new)) }
     ensures writer { lines.new.writer.ghost_name ≡ lines.old.writer.ghost_name }
     ensures told { TellsChanges (head_of kept.old) (head_of kept.new) lines.old.lost lines.new.lost (W.contents lines.old.writer.now)
         (W.contents lines.new.writer.now) }
     ensures faults { IfErr result (IsOfBeginning changes.now.cancels.items opened) }
 {
-    cancel_each(alloc, lines, kept, &changes.cancels)?;
+    match cancel_each(alloc, lines, kept, &changes.cancels) {
+        Ok(()) => {}
+        Err(error) => return Err(not_cancelled(error)),
+    }
     match opened {
         Some(opened) => open_all(alloc, lines, kept, &changes.parts, &opened),
         None => Ok(()),
+    }
+}
+
+/// Why nothing is led, if a campaign isn't cancelled.
+fn not_cancelled(error: KeptError) -> HeadError
+    ensures { result ≡ not_cancelled error }
+{
+    match error {
+        KeptError::Refused(refusal) => HeadError::CancelRefused(refusal),
+        KeptError::Full => HeadError::Full,
+        KeptError::BookFault => HeadError::BookFault,
+        KeptError::OutOfMemory => HeadError::OutOfMemory,
     }
 }
 
@@ -179,13 +267,12 @@ fn cancel_each<W: Write>(
     lines: &mut Lines<'_, W>,
     kept: &mut KeptHead<FileDevice>,
     serials: &[u32],
-) -> Result<(), Fault>
+) -> Result<(), KeptError>
     ensures cancelled { OnOk result (head_of kept.new ≡ cancelled_all serials.now (head_of kept.old)) }
     ensures writer { lines.new.writer.ghost_name ≡ lines.old.writer.ghost_name }
     ensures told { TellsChanges (head_of kept.old) (head_of kept.new) lines.old.lost lines.new.lost (W.contents lines.old.writer.now)
         (W.contents lines.new.writer.now) }
     ensures some { OnErr result (serials.now ≢ []) }
-    ensures faults { IfErr result IsOfCancelling }
 {
     for serial in serials {
         cancel_one(alloc, lines, kept, *serial)?;
@@ -200,7 +287,7 @@ fn open_all<W: Write>(
     kept: &mut KeptHead<FileDevice>,
     parts: &[Part],
     opened: &Opened,
-) -> Result<(), Fault>
+) -> Result<(), HeadError>
     ensures opened { OnOk result (head_of kept.new ≡ opened_all opened.now.release opened.now.image.items parts.now (head_of kept.old)) }
     ensures writer { lines.new.writer.ghost_name ≡ lines.old.writer.ghost_name }
     ensures told { TellsChanges (head_of kept.old) (head_of kept.new) lines.old.lost lines.new.lost (W.contents lines.old.writer.now)
@@ -213,8 +300,23 @@ fn open_all<W: Write>(
         image,
         at,
     } = opened;
-    check_parts(kept.head().view().book, parts, image)?;
-    open_parts(alloc, lines, kept, parts, *release, image, *at)
+    check_all(kept.head().view().book, parts, image)?;
+    match open_parts(alloc, lines, kept, parts, *release, image, *at) {
+        Ok(()) => Ok(()),
+        Err(error) => Err(not_opened(error)),
+    }
+}
+
+/// Why nothing is led, if a campaign isn't opened.
+fn not_opened(error: KeptError) -> HeadError
+    ensures { result ≡ not_opened error }
+{
+    match error {
+        KeptError::Refused(refusal) => HeadError::OpenRefused(refusal),
+        KeptError::Full => HeadError::Full,
+        KeptError::BookFault => HeadError::BookFault,
+        KeptError::OutOfMemory => HeadError::OutOfMemory,
+    }
 }
 
 /// Opens these campaigns, in their order.
@@ -226,12 +328,11 @@ fn open_parts<W: Write>(
     release: u32,
     image: &[u8],
     at: u64,
-) -> Result<(), Fault>
+) -> Result<(), KeptError>
     ensures opened { OnOk result (head_of kept.new ≡ opened_all release image.now parts.now (head_of kept.old)) }
     ensures writer { lines.new.writer.ghost_name ≡ lines.old.writer.ghost_name }
     ensures told { TellsChanges (head_of kept.old) (head_of kept.new) lines.old.lost lines.new.lost (W.contents lines.old.writer.now)
         (W.contents lines.new.writer.now) }
-    ensures faults { IfErr result IsOfOpening }
 {
     for part in parts {
         open_one(alloc, lines, kept, part, release, image, at)?;
@@ -248,14 +349,13 @@ fn open_one<W: Write>(
     release: u32,
     image: &[u8],
     at: u64,
-) -> Result<(), Fault>
+) -> Result<(), KeptError>
     ensures opened { OnOk result (head_of kept.new ≡ opened_head (head_of kept.old) part.now.serial release image.now part.now.meters.items) }
     ensures writer { lines.new.writer.ghost_name ≡ lines.old.writer.ghost_name }
     ensures told { TellsChanges (head_of kept.old) (head_of kept.new) lines.old.lost lines.new.lost (W.contents lines.old.writer.now)
         (W.contents lines.new.writer.now) }
-    ensures faults { IfErr result IsOfOpening }
 {
-    let name = open_part(alloc, kept, part, release, image, at)?;
+    let name = kept.open_campaign(alloc, part.serial, release, image, &part.meters, at)?;
     lines.tell_opened(name);
     Ok(())
 }

@@ -1,13 +1,11 @@
 //! The file of a daemon's capture, with what of it the disk may lack and why a write to it failed, and why the port of a daemon is closed.
 
 ghost use Rattle.std.specs.Prelude.{◌≡◌, ◌≢◌, ◌⊎◌, None, IfErr, IfOk, IsTrue, OnErr, is_some};
-ghost use Rattle.fw_host.specs.Captures.{IsOfCapture};
-ghost use Rattle.fw_cli.specs.Faults.{IsKeyed};
-ghost use Rattle.fw_cli.specs.Reasons.{closing_fault, counter_fault, reason_of};
+ghost use Rattle.fw_cli.specs.Reasons.{IsClosingKeyed, closing_error, counter_error, reason_of};
 
+use crate::error::ClosingError;
 use fw_counter::CounterError;
 use fw_disk::{Because, Cause, Name, Reason};
-use fw_faults::Fault;
 use fw_host::{
     CaptureFileError, ClosedBy, SealingOptions, Started, SyncedSink, open_capture, put_start,
 };
@@ -38,19 +36,15 @@ impl CaptureFile {
         rt: &R,
         alloc: Global,
         path: Option<&str>,
-    ) -> Result<Option<CaptureFile>, Because<Fault>>
+    ) -> Result<Option<CaptureFile>, Because<CaptureFileError>>
         ensures some { IfOk result (λ file. is_some file ≡ is_some path.entry) }
         ensures asked { OnErr result (IsTrue (is_some path.entry)) }
-        ensures faults { IfErr result (λ b. IsOfCapture b.error) }
     {
         match path {
             None => Ok(None),
             Some(path) => match open_capture(rt, alloc, path) {
                 Ok(file) => Ok(Some(CaptureFile::of(file))),
-                Err(because) => Err(Because {
-                    error: Fault::from(because.error),
-                    reason: because.reason,
-                }),
+                Err(because) => Err(because),
             },
         }
     }
@@ -143,9 +137,9 @@ pub(crate) fn start_meters<C: Clock>(
     file: Option<&mut CaptureFile>,
     count: u32,
     heads: &[SocketAddr],
-) -> Result<(), Because<Fault>>
-    ensures asked { IfErr result (λ b. IsOfCapture b.error → IsTrue (is_some capture.entry)) }
-    ensures faults { IfErr result (λ b. (b.error ≡ Fault.Socket) ⊎ (b.error ≡ Fault.CaptureFault)) }
+) -> Result<(), Because<ClosingError>>
+    ensures asked { IfErr result (λ b. b.error ≡ ClosingError.CaptureFault → IsTrue (is_some capture.entry)) }
+    ensures plain { IfErr result (λ b. (b.error ≡ ClosingError.Socket) ⊎ (b.error ≡ ClosingError.CaptureFault)) }
 {
     let Some(file) = file else {
         return Ok(());
@@ -162,9 +156,9 @@ pub(crate) fn start_head<C: Clock>(
     capture: Option<&str>,
     file: Option<&mut CaptureFile>,
     head: HeadId,
-) -> Result<(), Because<Fault>>
-    ensures asked { IfErr result (λ b. IsOfCapture b.error → IsTrue (is_some capture.entry)) }
-    ensures faults { IfErr result (λ b. (b.error ≡ Fault.Socket) ⊎ (b.error ≡ Fault.CaptureFault)) }
+) -> Result<(), Because<ClosingError>>
+    ensures asked { IfErr result (λ b. b.error ≡ ClosingError.CaptureFault → IsTrue (is_some capture.entry)) }
+    ensures plain { IfErr result (λ b. (b.error ≡ ClosingError.Socket) ⊎ (b.error ≡ ClosingError.CaptureFault)) }
 {
     let Some(file) = file else {
         return Ok(());
@@ -178,9 +172,9 @@ fn start_of(
     capture: Option<&str>,
     put: Result<(), CaptureFileError>,
     cause: Option<Cause>,
-) -> Result<(), Because<Fault>>
-    ensures asked { IfErr result (λ b. IsOfCapture b.error → IsTrue (is_some capture.entry)) }
-    ensures faults { IfErr result (λ b. (b.error ≡ Fault.Socket) ⊎ (b.error ≡ Fault.CaptureFault)) }
+) -> Result<(), Because<ClosingError>>
+    ensures asked { IfErr result (λ b. b.error ≡ ClosingError.CaptureFault → IsTrue (is_some capture.entry)) }
+    ensures plain { IfErr result (λ b. (b.error ≡ ClosingError.Socket) ⊎ (b.error ≡ ClosingError.CaptureFault)) }
 {
     match put {
         Ok(()) => Ok(()),
@@ -193,9 +187,9 @@ fn start_of(
 pub(crate) fn end_capture(
     capture: Option<&str>,
     file: Option<&CaptureFile>,
-) -> Result<(), Because<Fault>>
-    ensures asked { IfErr result (λ b. IsOfCapture b.error → IsTrue (is_some capture.entry)) }
-    ensures faults { IfErr result (λ b. (b.error ≡ Fault.Socket) ⊎ (b.error ≡ Fault.CaptureFault)) }
+) -> Result<(), Because<ClosingError>>
+    ensures asked { IfErr result (λ b. b.error ≡ ClosingError.CaptureFault → IsTrue (is_some capture.entry)) }
+    ensures plain { IfErr result (λ b. (b.error ≡ ClosingError.Socket) ⊎ (b.error ≡ ClosingError.CaptureFault)) }
 {
     let Some(file) = file else {
         return Ok(());
@@ -213,22 +207,20 @@ pub(crate) fn closing(
     sealing: Option<SealingOptions<'_>>,
     by: ClosedBy,
     cause: Option<Cause>,
-) -> Because<Fault>
-    ensures asked { IsOfCapture result.error → IsTrue (is_some capture.entry) }
-    ensures keyed { IsKeyed sealing.entry result.error }
-    ensures fault { result.error ≡ closing_fault capture.entry sealing.entry by }
-    ensures faults { (result.error ≡ Fault.Socket) ⊎ ((result.error ≡ Fault.CaptureFault) ⊎ ((result.error ≡ Fault.CounterFault)
-        ⊎ (result.error ≡ Fault.CounterSpent))) }
-    ensures reason { result.error ≡ Fault.CaptureFault → result.reason ≡ reason_of cause }
-    ensures others { result.error ≢ Fault.CaptureFault → result.reason ≡ None }
+) -> Because<ClosingError>
+    ensures asked { result.error ≡ ClosingError.CaptureFault → IsTrue (is_some capture.entry) }
+    ensures keyed { IsClosingKeyed sealing.entry result.error }
+    ensures error { result.error ≡ closing_error capture.entry sealing.entry by }
+    ensures reason { result.error ≡ ClosingError.CaptureFault → result.reason ≡ reason_of cause }
+    ensures others { result.error ≢ ClosingError.CaptureFault → result.reason ≡ None }
 {
     match by {
         ClosedBy::Capture if capture.is_some() => Because {
-            error: Fault::CaptureFault,
+            error: ClosingError::CaptureFault,
             reason: reason_of(cause),
         },
-        ClosedBy::Counter(error) if sealing.is_some() => Because::from(counter_fault(error)),
-        _ => Because::from(Fault::Socket),
+        ClosedBy::Counter(error) if sealing.is_some() => Because::from(counter_error(error)),
+        _ => Because::from(ClosingError::Socket),
     }
 }
 
@@ -237,9 +229,9 @@ pub(crate) fn closing_plain(
     capture: Option<&str>,
     has_failed: bool,
     cause: Option<Cause>,
-) -> Because<Fault>
-    ensures asked { IsOfCapture result.error → IsTrue (is_some capture.entry) }
-    ensures faults { (result.error ≡ Fault.Socket) ⊎ (result.error ≡ Fault.CaptureFault) }
+) -> Because<ClosingError>
+    ensures asked { result.error ≡ ClosingError.CaptureFault → IsTrue (is_some capture.entry) }
+    ensures plain { (result.error ≡ ClosingError.Socket) ⊎ (result.error ≡ ClosingError.CaptureFault) }
 {
     if has_failed {
         closing(capture, None, ClosedBy::Capture, cause)
@@ -249,12 +241,12 @@ pub(crate) fn closing_plain(
 }
 
 /// What a sealer that no counter is given ends a daemon with.
-fn counter_fault(error: CounterError) -> Fault
-    ensures { result ≡ counter_fault error }
+fn counter_error(error: CounterError) -> ClosingError
+    ensures { result ≡ counter_error error }
 {
     match error {
-        CounterError::CounterSpent => Fault::CounterSpent,
-        _ => Fault::CounterFault,
+        CounterError::CounterSpent => ClosingError::CounterSpent,
+        _ => ClosingError::CounterFault,
     }
 }
 

@@ -12,37 +12,33 @@ ghost use Rattle.std.specs.Prelude.{
   IfErr,
   IfOk,
   IsErr,
-  IsTrue,
   OnErr,
   OnOk,
   All,
   MatchOption,
   None,
   Some,
-  is_some,
 };
 ghost use Rattle.std.specs.Io.KnownBytes.{Appends, Keeps};
 ghost use Rattle.std.specs.Net.Socket.{socket_port};
-ghost use Rattle.fw_store.specs.Setup.{IsSetup};
-ghost use Rattle.fw_store.specs.declared.version.HeaderVersion.TheVariants.{Two};
 ghost use Rattle.fw_daemon.specs.Daemon.{daemon_of};
 ghost use Rattle.fw_daemon.specs.Rounds.{GoesRound};
 ghost use Rattle.fw_cli.specs.Fleets.{AreWatched, HadPass, HasHeads, IsAddressOf, OneIsWatched, TellsAll, daemons_of, path_of, port_of};
-ghost use Rattle.fw_cli.specs.Faults.{IsOfPlainMeter, IsOfPlainServing, NamesMeter};
-ghost use Rattle.fw_host.specs.Captures.{IsOfCapture};
-ghost use Rattle.fw_host.specs.Meters.{IsOfSetup, IsOfStore, default_factory, listening_line};
+ghost use Rattle.fw_cli.specs.MeterErrors.{IsBroughtBy, IsOfServing, IsOfSetup, IsOfStore, NamesMeter};
+ghost use Rattle.fw_host.specs.Meters.{listening_line};
 ghost use Rattle.fw_cli.specs.declared.fleet.Member.{Member};
 
 use crate::capture_file::{CaptureFile, closing_plain, end_capture, failure_of, start_meters};
+use crate::error::TellingError;
 use crate::fleet_watch::FleetWatch;
 use crate::judged::{Judge, Judged};
-use crate::meter::{Listening, MeterFault, MeterOptions, Teller, heads_of, strangers_of};
+use crate::meter::{Listening, MeterOptions, Teller, heads_of, not_started, strangers_of};
+use crate::meter_error::{MeterError, MeterFailure};
 use crate::noted_serving::step_noted;
 use fw_daemon::{Dropped, MeterDaemon, MeterEvent};
-use fw_disk::Because;
-use fw_faults::{Fault, write_text};
+use fw_faults::write_text;
 use fw_host::{CapturePort, Lines, Strangers, listening_line};
-use fw_port::{Closed, Port, UdpPort};
+use fw_port::{Closed, Port, SocketError, UdpPort};
 use fw_store::FileStore;
 use std::alloc::{AllocError, Global};
 use std::fs::File;
@@ -179,25 +175,19 @@ pub(crate) fn serve_fleet<R: Files<File = File> + Clock + Net + Wait, W: Write>(
     writer: &mut W,
     options: &MeterOptions<'_>,
     count: u32,
-) -> Result<(), MeterFault>
+) -> Result<(), MeterFailure>
     requires plain { options.now.sealing ≡ None }
     ensures ends { IsErr result }
     ensures number { IfErr result (NamesMeter (Some count)) }
-    ensures bad_setup { options.now.fresh.factory_file ≡ None → IfErr result (λ e. e.fault ≡ Fault.BadSetup
-        → ¬ IsSetup Two options.now.fresh.block_size options.now.fresh.capacity default_factory) }
-    ensures silent { IfErr result (λ e. e.fault ≢ Fault.Socket → e.fault ≢ Fault.Output → e.fault ≢ Fault.CaptureFault
+    ensures silent { IfErr result (λ e. e.error ≢ MeterError.Socket → e.error ≢ MeterError.Output → e.error ≢ MeterError.CaptureFault
         → Keeps (W.contents writer.old) (W.contents writer.new)) }
-    ensures asked { IfErr result (λ e. IsOfCapture e.fault → IsTrue (is_some options.now.capture)) }
-    ensures faults { IfErr result (λ e. IsOfPlainMeter e.fault) }
+    ensures asked { IfErr result (λ e. IsBroughtBy options.now e.error) }
 {
     let ports = ports_of(rt, alloc, options.listen, count)?;
     let sites = sites_of(rt, alloc, options, ports, count)?;
     let file = CaptureFile::opened(rt, alloc, options.capture)?;
     let members = members_of(rt, alloc, options, sites, count)?;
-    match serve_members(rt, alloc, writer, members, file, options) {
-        Ok(()) => Ok(()),
-        Err(because) => Err(MeterFault::from(because)),
-    }
+    serve_members(rt, alloc, writer, members, file, options)
 }
 
 /// Serves these meters, until the port of one is closed. If a capture is asked for, this is its file.
@@ -208,21 +198,21 @@ fn serve_members<R: Files<File = File> + Clock + Wait, W: Write>(
     members: Vec<Member>,
     file: Option<CaptureFile>,
     options: &MeterOptions<'_>,
-) -> Result<(), Because<Fault>>
+) -> Result<(), MeterFailure>
     requires heads { All (HasHeads options.now.heads.items) members.items }
     requires plain { options.now.sealing ≡ None }
     ensures ends { IsErr result }
-    ensures silent { IfErr result (λ b. b.error ≢ Fault.Socket → b.error ≢ Fault.Output → b.error ≢ Fault.CaptureFault
+    ensures number { IfErr result (λ e. e.number ≡ None) }
+    ensures silent { IfErr result (λ e. e.error ≢ MeterError.Socket → e.error ≢ MeterError.Output → e.error ≢ MeterError.CaptureFault
         → Keeps (W.contents writer.old) (W.contents writer.new)) }
-    ensures asked { IfErr result (λ b. IsOfCapture b.error → IsTrue (is_some options.now.capture)) }
-    ensures faults { IfErr result (λ b. IsOfPlainServing b.error) }
+    ensures asked { IfErr result (λ e. IsOfServing options.now.capture options.now.sealing e.error) }
 {
     let mut file = file;
     let count = options.count.unwrap_or(0);
     let heads = options.heads.as_slice();
     match start_meters(rt, alloc, options.capture, file.as_mut(), count, heads) {
         Ok(()) => {}
-        Err(because) => return Err(because),
+        Err(because) => return Err(not_started(because)),
     }
     let common = Common {
         strangers: strangers_of(alloc, &options.heads, options.captures_strangers)?,
@@ -247,7 +237,8 @@ fn serve_members<R: Files<File = File> + Clock + Wait, W: Write>(
     let cause = failure_of(capture.as_ref());
     // If that fails, why the port is closed is told all the same.
     let _ = end_capture(options.capture, capture.as_ref());
-    Err(closing_plain(options.capture, *has_failed, cause))
+    let closed = closing_plain(options.capture, *has_failed, cause);
+    Err(MeterFailure::from(closed))
 }
 
 /// The ports of meters of the numbers from 1 to this one.
@@ -256,32 +247,34 @@ fn ports_of<N: Net>(
     alloc: Global,
     first: SocketAddr,
     count: u32,
-) -> Result<Vec<Listening>, MeterFault>
+) -> Result<Vec<Listening>, MeterFailure>
     ensures count { IfOk result (λ ports. length ports.items ≡ count) }
     ensures number { IfErr result (NamesMeter (Some count)) }
-    ensures faults { IfErr result (λ e. (e.fault ≡ Fault.Socket) ⊎ (e.fault ≡ Fault.OutOfMemory)) }
+    ensures errors { IfErr result (λ e. (e.error ≡ MeterError.Socket) ⊎ (e.error ≡ MeterError.OutOfMemory)) }
 {
     let mut ports = Vec::new(alloc);
     for before in 0..count {
         let number = before + 1;
         let port = match numbered_port(net, first, number) {
             Ok(port) => port,
-            Err(fault) => return Err(MeterFault::of_meter(Because::from(fault), number)),
+            Err(error) => return Err(MeterFailure::from(error).of_meter(number)),
         };
         if ports.push(port).is_err() {
-            return Err(MeterFault::from(Fault::OutOfMemory));
+            return Err(MeterFailure::from(AllocError));
         }
     }
     Ok(ports)
 }
 
 /// The port of the meter of this number.
-fn numbered_port<N: Net>(net: &N, first: SocketAddr, number: u32) -> Result<Listening, Fault>
-    ensures faults { IfErr result (λ f. f ≡ Fault.Socket) }
-{
+fn numbered_port<N: Net>(
+    net: &N,
+    first: SocketAddr,
+    number: u32,
+) -> Result<Listening, SocketError> {
     match address_of(first, number) {
         Some(listen) => Listening::of(UdpPort::bind_polling(net, listen)),
-        None => Err(Fault::Socket),
+        None => Err(SocketError),
     }
 }
 
@@ -292,13 +285,11 @@ fn sites_of<F: Files<File = File>>(
     options: &MeterOptions<'_>,
     ports: Vec<Listening>,
     count: u32,
-) -> Result<Vec<Site>, MeterFault>
+) -> Result<Vec<Site>, MeterFailure>
     requires { length ports.items ≡ count }
     ensures count { IfOk result (λ sites. length sites.items ≡ count) }
     ensures number { IfErr result (NamesMeter (Some count)) }
-    ensures bad_setup { options.now.fresh.factory_file ≡ None → IfErr result (λ e. e.fault ≡ Fault.BadSetup
-        → ¬ IsSetup Two options.now.fresh.block_size options.now.fresh.capacity default_factory) }
-    ensures faults { IfErr result (λ e. IsOfSetup e.fault) }
+    ensures asked { IfErr result (λ e. IsOfSetup options.now.fresh e.error) }
 {
     let mut judge = Judge::of(options.fresh);
     let mut sites = Vec::new(alloc);
@@ -307,10 +298,10 @@ fn sites_of<F: Files<File = File>>(
         let number = before + 1;
         let judged = match numbered_meter(rt, alloc, options.store, &mut judge, number) {
             Ok(judged) => judged,
-            Err(because) => return Err(MeterFault::of_meter(because, number)),
+            Err(failure) => return Err(failure.of_meter(number)),
         };
         if sites.push(Site { port, judged }).is_err() {
-            return Err(MeterFault::from(Fault::OutOfMemory));
+            return Err(MeterFailure::from(AllocError));
         }
         before = number;
     }
@@ -324,22 +315,19 @@ fn numbered_meter<F: Files<File = File>>(
     store: &str,
     judge: &mut Judge<'_>,
     number: u32,
-) -> Result<Judged, Because<Fault>>
+) -> Result<Judged, MeterFailure>
     ensures fresh { judge.new.fresh ≡ judge.old.fresh }
-    ensures bad_setup { judge.old.fresh.factory_file ≡ None → IfErr result (λ b. b.error ≡ Fault.BadSetup
-        → ¬ IsSetup Two judge.old.fresh.block_size judge.old.fresh.capacity default_factory) }
-    ensures faults { IfErr result (λ b. IsOfSetup b.error) }
+    ensures asked { IfErr result (λ e. IsOfSetup judge.old.fresh e.error) }
 {
     let path = numbered_path(alloc, store, number)?;
     judge.meter(rt, alloc, path.as_str())
 }
 
 /// The path of the file of the meter of this number.
-fn numbered_path(alloc: Global, store: &str, number: u32) -> Result<String, Fault>
+fn numbered_path(alloc: Global, store: &str, number: u32) -> Result<String, AllocError>
     ensures path { IfOk result (λ path. string_bytes path ≡ path_of store.now number) }
-    ensures faults { IfErr result (λ f. f ≡ Fault.OutOfMemory) }
 {
-    Ok(format!(in alloc; "{store}.{number}")?)
+    format!(in alloc; "{store}.{number}")
 }
 
 /// The judged meters of the numbers from 1 to this one, of which each that has no file gets one.
@@ -349,12 +337,12 @@ fn members_of<F: Files<File = File>>(
     options: &MeterOptions<'_>,
     sites: Vec<Site>,
     count: u32,
-) -> Result<Vec<Member>, MeterFault>
+) -> Result<Vec<Member>, MeterFailure>
     requires { length sites.items ≡ count }
     ensures count { IfOk result (λ members. length members.items ≡ count) }
     ensures heads { IfOk result (λ members. All (HasHeads options.now.heads.items) members.items) }
     ensures number { IfErr result (NamesMeter (Some count)) }
-    ensures faults { IfErr result (λ e. (e.fault ≡ Fault.OutOfMemory) ⊎ IsOfStore e.fault) }
+    ensures errors { IfErr result (λ e. (e.error ≡ MeterError.OutOfMemory) ⊎ IsOfStore e.error) }
 {
     let mut members = Vec::new(alloc);
     let mut before = 0u32;
@@ -362,10 +350,10 @@ fn members_of<F: Files<File = File>>(
         let number = before + 1;
         let member = match new_member(rt, alloc, options, site, number) {
             Ok(member) => member,
-            Err(because) => return Err(MeterFault::of_meter(because, number)),
+            Err(failure) => return Err(failure.of_meter(number)),
         };
         if members.push(member).is_err() {
-            return Err(MeterFault::from(Fault::OutOfMemory));
+            return Err(MeterFailure::from(AllocError));
         }
         before = number;
     }
@@ -379,9 +367,9 @@ fn new_member<F: Files<File = File>>(
     options: &MeterOptions<'_>,
     site: Site,
     number: u32,
-) -> Result<Member, Because<Fault>>
+) -> Result<Member, MeterFailure>
     ensures heads { IfOk result (HasHeads options.now.heads.items) }
-    ensures faults { IfErr result (λ b. (b.error ≡ Fault.OutOfMemory) ⊎ IsOfStore b.error) }
+    ensures errors { IfErr result (λ e. (e.error ≡ MeterError.OutOfMemory) ⊎ IsOfStore e.error) }
 {
     let Site {
         port: Listening { port, at },
@@ -417,14 +405,17 @@ fn address_of(first: SocketAddr, number: u32) -> Option<SocketAddr>
 }
 
 /// Writes at which addresses these meters receive datagrams.
-fn tell_members<W: Write>(alloc: Global, writer: &mut W, members: &[Member]) -> Result<(), Fault>
+fn tell_members<W: Write>(
+    alloc: Global,
+    writer: &mut W,
+    members: &[Member],
+) -> Result<(), TellingError>
     ensures written { OnOk result (Appends (W.contents writer.old) (W.contents writer.new)
         (flat_map (λ (member : Member). listening_line member.at) members.now)) }
-    ensures silent { IfErr result (λ f. f ≢ Fault.Output → Keeps (W.contents writer.old) (W.contents writer.new)) }
-    ensures faults { IfErr result (λ f. (f ≡ Fault.Output) ⊎ (f ≡ Fault.OutOfMemory)) }
+    ensures silent { IfErr result (λ e. e ≢ TellingError.Output → Keeps (W.contents writer.old) (W.contents writer.new)) }
 {
     let lines = listening_lines(alloc, members)?;
-    write_text(writer, lines.as_str()).map_err(|_| Fault::Output)
+    write_text(writer, lines.as_str()).map_err(|_| TellingError::Output)
 }
 
 /// The lines that tell at which addresses datagrams are received.

@@ -1,7 +1,8 @@
 //! The command `give-up`: live rows of a head end's book are given up by hand, without a network.
 
-ghost use Rattle.std.specs.Prelude.{◌≡◌, ◌∷◌, ◌++◌, [], IfErr, IfOk, OnErr, OnOk};
+ghost use Rattle.std.specs.Prelude.{◌≡◌, ◌≢◌, ◌∷◌, ◌++◌, [], IfOk, None, OnErr, OnOk};
 ghost use Rattle.fw_book.specs.Contents.{Contents};
+ghost use Rattle.fw_journal.specs.File.{cause_of};
 ghost use Rattle.fw_kept.specs.Head.{Holds, book_of, head_of};
 ghost use Rattle.fw_plan.specs.Meters.{meters_of};
 ghost use Rattle.fw_host.specs.Telling.{Told, lines_of_rows};
@@ -10,18 +11,21 @@ ghost use Rattle.fw_cli.specs.GivingUp.{
   GivesUpAll,
   GivesUpIn,
   HasGivenUp,
-  IsOfGiveUp,
-  IsOfGivingUp,
   Says,
+  fault_of_give_up,
+  give_up_of_book,
 };
+ghost use Rattle.fw_cli.specs.Private.{commit_error, give_up_of_commit};
+ghost use Rattle.fw_cli.specs.Reasons.{reason_of};
+ghost use Rattle.fw_cli.specs.declared.give_up.CommitError.TheVariants as commit;
 
-use crate::head::of_book;
+use crate::capture_file::reason_of;
 use fw_blocks::Width;
 use fw_book::End;
 use fw_disk::Because;
 use fw_faults::Fault;
 use fw_head::WhyGivenUp;
-use fw_host::{BookOptions, Lines, date, kept_head};
+use fw_host::{BookFileError, Lines, date, open_book};
 use fw_journal::{FileDevice, JournalDevice};
 use fw_kept::{KeptError, KeptHead};
 use fw_ledger::Ending;
@@ -29,9 +33,11 @@ use fw_names::{CampaignId, HeadId, MeterId};
 use fw_plan::{MeterRange, meters_of};
 use fw_rollout::Ended;
 use std::alloc::{AllocError, Global};
+use std::fmt;
 use std::fs::File;
 use std::io::Write;
 use std::rt::{Clock, Files};
+use thiserror::Error;
 
 /// The options of the command.
 #[derive(Drop)]
@@ -62,6 +68,102 @@ impl GaveUp {
             GaveUp::Each
         } else {
             GaveUp::NotEach
+        }
+    }
+}
+
+/// Why the command ended early. It prints its name, and of a bad book the offset, or the index of the record, too.
+#[derive(Clone, Copy, Debug, Error)]
+pub enum GiveUpError {
+    /// No file of a book is there.
+    NoBook,
+    /// Another process has the book.
+    Locked,
+    /// The file of the book can't be opened, read, written or synced.
+    BookFault,
+    /// The bytes of the book from this offset on are none.
+    BadBook(u64),
+    /// The record of the book with this index, counted from 0, has no place in it.
+    BadRecord(usize),
+    /// The book is another head end's.
+    ForeignHead,
+    /// The book has 2^60 bytes or more.
+    Full,
+    /// Memory was refused.
+    OutOfMemory,
+}
+
+impl fmt::Display for GiveUpError {
+    fn fmt<W: fmt::Write>(&self, f: &mut fmt::Formatter<W>) -> fmt::Result {
+        match self {
+            GiveUpError::BadBook(offset) => write!(f, "BadBook {offset}"),
+            GiveUpError::BadRecord(index) => write!(f, "BadRecord {index}"),
+            other => fmt::Debug::fmt(other, f),
+        }
+    }
+}
+
+impl From<BookFileError> for GiveUpError {
+    ghost from_gives = { λ error e. e ≡ give_up_of_book error };
+
+    fn from(error: BookFileError) -> GiveUpError {
+        match error {
+            BookFileError::NoBook => GiveUpError::NoBook,
+            BookFileError::Locked => GiveUpError::Locked,
+            BookFileError::BookFault => GiveUpError::BookFault,
+            BookFileError::BadBook(offset) => GiveUpError::BadBook(offset),
+            BookFileError::BadRecord(index) => GiveUpError::BadRecord(index),
+            BookFileError::ForeignHead => GiveUpError::ForeignHead,
+            BookFileError::OutOfMemory => GiveUpError::OutOfMemory,
+        }
+    }
+}
+
+impl From<GiveUpError> for Fault {
+    ghost from_gives = { λ error fault. fault ≡ fault_of_give_up error };
+
+    fn from(error: GiveUpError) -> Fault {
+        match error {
+            GiveUpError::NoBook => Fault::NoBook,
+            GiveUpError::Locked => Fault::Locked,
+            GiveUpError::BookFault => Fault::BookFault,
+            GiveUpError::BadBook(offset) => Fault::BadBook(offset),
+            GiveUpError::BadRecord(index) => Fault::BadRecord(index),
+            GiveUpError::ForeignHead => Fault::ForeignHead,
+            GiveUpError::Full => Fault::Full,
+            GiveUpError::OutOfMemory => Fault::OutOfMemory,
+        }
+    }
+}
+
+/// Why no rows are given up in an open book.
+#[derive(Clone, Copy)]
+enum CommitError {
+    /// The book has 2^60 bytes or more.
+    Full,
+    /// Its device failed.
+    BookFault,
+    /// Memory was refused.
+    OutOfMemory,
+}
+
+impl From<AllocError> for CommitError {
+    ghost from_gives = { λ _ e. e ≡ commit.OutOfMemory };
+
+    fn from(_error: AllocError) -> CommitError {
+        CommitError::OutOfMemory
+    }
+}
+
+impl From<KeptError> for CommitError {
+    ghost from_gives = { λ error e. e ≡ commit_error error };
+
+    fn from(error: KeptError) -> CommitError {
+        match error {
+            KeptError::Full => CommitError::Full,
+            KeptError::OutOfMemory => CommitError::OutOfMemory,
+            // The book itself refuses no commit.
+            KeptError::BookFault | KeptError::Refused(_) => CommitError::BookFault,
         }
     }
 }
@@ -115,7 +217,7 @@ impl GivenRows {
 ///
 /// The writer gets `row ..` for each, once the disk has all. Each is flushed; one that can't be written is lost. Standard error gets
 /// `meter N has no live row` for each meter that has none, and is told of records that the book lacks, and of the file that keeps them
-/// ([`kept_head`]).
+/// ([`open_book`]).
 ///
 /// # Errors
 ///
@@ -130,11 +232,10 @@ pub fn run_give_up<F: Files<File = File> + Clock + Eprint, W: Write>(
     alloc: Global,
     writer: &mut W,
     options: &GiveUpOptions<'_>,
-) -> Result<GaveUp, Because<Fault>>
+) -> Result<GaveUp, Because<GiveUpError>>
     // Of the file's contents nothing is known here, so the head end is some one of that number.
     ensures given_up { IfOk result (λ gave. HasGivenUp options.now gave) }
     ensures silent { OnErr result (W.contents writer.new ≡ W.contents writer.old) }
-    ensures faults { IfErr result (λ b. IsOfGiveUp b.error) }
 {
     let given = match given_up(rt, alloc, options) {
         Ok(given) => given,
@@ -151,23 +252,29 @@ fn given_up<F: Files<File = File> + Clock + Eprint>(
     rt: &F,
     alloc: Global,
     options: &GiveUpOptions<'_>,
-) -> Result<GivenRows, Because<Fault>>
+) -> Result<GivenRows, Because<GiveUpError>>
     ensures given { IfOk result (λ given. GivesUpIn options.now given.rows.items given.lacking.items) }
-    ensures faults { IfErr result (λ b. IsOfGiveUp b.error) }
 {
     // Nothing is sent, so how many blocks would be at a time doesn't matter.
     let Some(width) = Width::new(1) else {
         unreachable!();
     };
-    let book = BookOptions {
-        path: options.book,
-        is_new: false,
-    };
-    let mut kept = match kept_head(rt, alloc, book, options.head, width) {
+    let mut kept = match open_book(rt, alloc, options.book, options.head, width) {
         Ok(kept) => kept,
-        Err(because) => return Err(because),
+        Err(because) => return Err(not_opened(because)),
     };
     give_up_in(alloc, &mut kept, &options.meters, date(rt))
+}
+
+/// Why the command ended early, with its reason, if its book isn't opened.
+fn not_opened(because: Because<BookFileError>) -> Because<GiveUpError>
+    ensures error { result.error ≡ give_up_of_book because.error }
+    ensures reason { result.reason ≡ because.reason }
+{
+    Because {
+        error: GiveUpError::from(because.error),
+        reason: because.reason,
+    }
 }
 
 /// Gives up the live rows of the meters that these name at this time. A fault of the book has the cause of its device.
@@ -176,14 +283,29 @@ fn give_up_in(
     kept: &mut KeptHead<FileDevice>,
     named: &[MeterRange],
     at: u64,
-) -> Result<GivenRows, Because<Fault>>
+) -> Result<GivenRows, Because<GiveUpError>>
     ensures given { IfOk result (λ given. GivesUpAll (head_of kept.old) (meters_of (book_of kept.old) named.now) at given.rows.items
         given.lacking.items (head_of kept.new)) }
-    ensures faults { IfErr result (λ b. IsOfGivingUp b.error) }
 {
     match give_up_named(alloc, kept, named, at) {
         Ok(given) => Ok(given),
-        Err(fault) => Err(of_book(Because::from(fault), kept.device())),
+        Err(error) => Err(not_given_up(error, kept.device())),
+    }
+}
+
+/// Why the command ended early, if no rows are given up in the book on this device. A fault of the book has the cause of the device.
+fn not_given_up(error: CommitError, device: &FileDevice) -> Because<GiveUpError>
+    ensures error { result.error ≡ give_up_of_commit error }
+    ensures book { error ≡ CommitError.BookFault → result.reason ≡ reason_of (cause_of device.now) }
+    ensures others { error ≢ CommitError.BookFault → result.reason ≡ None }
+{
+    match error {
+        CommitError::BookFault => Because {
+            error: GiveUpError::BookFault,
+            reason: reason_of(device.cause()),
+        },
+        CommitError::Full => Because::from(GiveUpError::Full),
+        CommitError::OutOfMemory => Because::from(GiveUpError::OutOfMemory),
     }
 }
 
@@ -193,31 +315,19 @@ fn give_up_named<D: JournalDevice>(
     kept: &mut KeptHead<D>,
     named: &[MeterRange],
     at: u64,
-) -> Result<GivenRows, Fault>
+) -> Result<GivenRows, CommitError>
     ensures given { IfOk result (λ given. GivesUpAll (head_of kept.old) (meters_of (book_of kept.old) named.now) at given.rows.items
         given.lacking.items (head_of kept.new)) }
 
     // What is returned is on the device.
     ensures acknowledged { (synced : Contents) → Holds D.honest D.contents D.may_leave kept.old synced
         → OnOk result (Holds D.honest D.contents D.may_leave kept.new (book_of kept.new)) }
-    ensures faults { IfErr result IsOfGivingUp }
 {
     let meters = meters_of(alloc, kept.head().view().book, named)?;
     let given = give_up_all(alloc, kept, &meters, at)?;
     match kept.commit() {
         Ok(()) => Ok(given),
-        Err(refusal) => Err(fault_of(refusal)),
-    }
-}
-
-/// The fault that a refused commit is. The book itself refuses no commit.
-fn fault_of(refusal: KeptError) -> Fault
-    ensures { IsOfGivingUp result }
-{
-    match refusal {
-        KeptError::Full => Fault::Full,
-        KeptError::OutOfMemory => Fault::OutOfMemory,
-        KeptError::BookFault | KeptError::Refused(_) => Fault::BookFault,
+        Err(refusal) => Err(CommitError::from(refusal)),
     }
 }
 

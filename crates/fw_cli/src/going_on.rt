@@ -1,18 +1,17 @@
 //! What a head end goes on with, for who starts it again, and which of it it doesn't lead.
 
-ghost use Rattle.std.specs.Prelude.{◌≡◌, IfErr, IfOk};
+ghost use Rattle.std.specs.Prelude.{◌≡◌, IfOk};
 ghost use Rattle.fw_kept.specs.Head.{book_of};
 ghost use Rattle.fw_plan.specs.Openings.{unlisted};
 ghost use Rattle.fw_host.specs.Openings.{listed_meters};
 
 use fw_book::{Book, Row, RowState};
-use fw_faults::Fault;
 use fw_host::listed_meters;
 use fw_journal::FileDevice;
 use fw_kept::KeptHead;
 use fw_plan::{UnlistedRow, unlisted};
 use fw_rollout::MeterList;
-use std::alloc::Global;
+use std::alloc::{AllocError, Global};
 
 /// Tells standard error how far each campaign of the book is that has a live row. A line that can't be written is passed over.
 pub(crate) fn tell_going_on<E: Eprint>(rt: &E, book: &Book) {
@@ -42,9 +41,8 @@ pub(crate) fn tell_unlisted<E: Eprint>(
     alloc: Global,
     kept: &KeptHead<FileDevice>,
     list: &MeterList,
-) -> Result<Vec<UnlistedRow>, Fault>
+) -> Result<Vec<UnlistedRow>, AllocError>
     ensures rows { IfOk result (λ rows. rows.items ≡ unlisted (listed_meters list.now) (book_of kept.now)) }
-    ensures faults { IfErr result (λ f. f ≡ Fault.OutOfMemory) }
 {
     let book = kept.head().view().book;
     let meters = listed_meters(alloc, list.meters())?;

@@ -1,55 +1,56 @@
 //! The command `head`: a head end whose book is in a file leads meters over UDP to the images that they are offered.
 
-ghost use Rattle.std.specs.Prelude.{◌≡◌, ◌≢◌, ◌≤◌, ◌∷◌, [], ℕ, List, IfErr, IfOk, IsTrue, OnErr, OnOk, None, Some, false, is_some};
+ghost use Rattle.std.specs.Prelude.{◌≡◌, ◌≤◌, ◌∷◌, [], ℕ, List, Option, IfErr, IfOk, IsTrue, OnErr, OnOk, None, Some, false, is_some};
 ghost use Rattle.std.specs.Io.KnownBytes.{Keeps};
 ghost use Rattle.fw_head.specs.Head.{BeginsWith, campaign_at, cancelled_head};
 ghost use Rattle.fw_journal.specs.File.{cause_of};
 ghost use Rattle.fw_kept.specs.Head.{book_of, head_of};
+ghost use Rattle.fw_kept.specs.Refusals.{IsRefusedFor};
 ghost use Rattle.fw_rollout.specs.Counting.{counted_of};
 ghost use Rattle.fw_rollout.specs.Daemon.{HasRunOut, IsLed, IsOver, meters_of, timing_of};
 ghost use Rattle.fw_rollout.specs.Leading.{Leader};
-ghost use Rattle.fw_host.specs.Captures.{IsOfCapture};
-ghost use Rattle.fw_host.specs.Heads.{ComesBeforeLines, IsCancelFault, IsOfHead, IsOfHeadSetup, cancelled_line};
+ghost use Rattle.fw_host.specs.Heads.{cancelled_line};
 ghost use Rattle.fw_host.specs.Lists.{SpellsList};
 ghost use Rattle.fw_host.specs.Waves.{listed_in};
 ghost use Rattle.fw_host.specs.Telling.{Told};
+ghost use Rattle.fw_host.specs.declared.sealing.SealingOptions.{SealingOptions as Sealed};
 ghost use Rattle.fw_book.specs.Changes.{cancel_refusal, empty_book};
 ghost use Rattle.fw_cli.specs.Beginning.{AreChanges, HasLedOut, HasLedTo, IsDaemonOf, IsOpeningOf};
+ghost use Rattle.fw_cli.specs.HeadErrors.{ComesBeforeLines, IsAskedFor, IsOfLeading, head_of_closing, head_of_stop};
 ghost use Rattle.fw_cli.specs.Judging.{IsJudged};
-ghost use Rattle.fw_cli.specs.Heads.{IsAskedFor, IsOfCancelling, IsOfStop};
-ghost use Rattle.fw_cli.specs.Reasons.{reason_of};
-ghost use Rattle.fw_cli.specs.Faults.{IsKeyed};
+ghost use Rattle.fw_cli.specs.Reasons.{book_reason};
 ghost use Rattle.fw_cli.specs.Sealing.{IsHeadSealing, links_in, links_of, options_of};
 ghost use Rattle.fw_cli.specs.Telling.{TellsChanges, TellsEnded};
 ghost use Rattle.fw_cli.specs.Waves.{AreWaves};
 
 use crate::beginning::{Changes, Opened, begin, judge, opened_of};
 use crate::capture_file::{CaptureFile, closing, end_capture, failure_of, reason_of, start_head};
-use crate::error::{FileError, ListFileError};
+use crate::error::{ClosingError, FileError, ListFileError};
 use crate::going_on::{tell_going_on, tell_unlisted};
+use crate::head_error::{HeadError, HeadFailure};
 use crate::head_watch::{HeadTold, Watched};
 use crate::meter::{Listening, RecordedPort, tell_listening};
 use crate::sealing::{JudgedSealing, Keyed, keyed_head};
 use crate::told_files::ToldFiles;
 use crate::waves::{WaveStop, Waves};
 use fw_blocks::Width;
-use fw_book::Book;
-use fw_disk::Because;
+use fw_book::{Book, BookError};
+use fw_disk::{Because, Cause, Reason};
 use fw_events::ToldRows;
-use fw_faults::{Fault, InputError, Reads, read_input};
+use fw_faults::{InputError, Reads, read_input};
 use fw_host::{
     BookOptions, CapturePort, ClosedBy, DatagramPort, HeadProgress, Lines, Opening, ProgressOutput,
-    Sealing, SealingOptions, Strangers, SyncedSink, UdpHeadPort, WaveList, cancel, check_absent,
-    kept_head, read_list,
+    Sealing, SealingOptions, Strangers, SyncedSink, UdpHeadPort, WaveList, check_absent, make_book,
+    open_book, read_list,
 };
 use fw_journal::{FileDevice, JournalDevice};
-use fw_kept::KeptHead;
+use fw_kept::{KeptError, KeptHead};
 use fw_names::{CampaignId, HeadId};
 use fw_plan::{MaxFailed, SerialRange, UnlistedRow};
 use fw_port::UdpPort;
 use fw_rollout::{HeadDaemon, Listed, MeterList, Plan, Stop, Timing};
 use fw_sealport::SealedPort;
-use std::alloc::Global;
+use std::alloc::{AllocError, Global};
 use std::fs::File;
 use std::io::Write;
 use std::net::{Net, SocketAddr};
@@ -135,7 +136,7 @@ impl LedOut {
 /// The writer gets the line `listening ..`, once datagrams are received, `cancelled ..` and `opened ..` for each campaign, `row ..` for each
 /// row that ended, each once the disk has it, and `over ..` at the end. Each is flushed. After the first, a line that can't be written is
 /// lost. Standard error shows the progress as `progress` says. It is told of records that the book lacks, and of the file that keeps them
-/// ([`kept_head`]), then of each campaign that has live rows from an earlier run, and of each live row whose meter isn't in the list.
+/// ([`open_book`]), then of each campaign that has live rows from an earlier run, and of each live row whose meter isn't in the list.
 ///
 /// Events and metrics go where `files` says, which was judged: each line after the first has its event behind it, and each row that ended
 /// without one gets it before others are led. One that can't be written is lost.
@@ -174,16 +175,15 @@ pub fn run_head<R: Files<File = File> + Clock + Eprint + Net + Wait, W: Write>(
     progress: ProgressOutput,
     files: &mut ToldFiles<'_>,
     options: &HeadOptions<'_>,
-) -> Result<LedOut, Because<Fault>>
+) -> Result<LedOut, HeadFailure>
     // If it ends well, what the options ask for was cancelled and opened, and no row is live that a daemon leads. It says whether a row is
     // live whose meter isn't in the list, and else whether one of those that it led failed.
     ensures led { IfOk result (HasLedOut options.now) }
 
     // If it stays, it ends by a fault alone.
     ensures stays { OnOk result (options.now.stays ≡ false) }
-    ensures silent { IfErr result (λ b. ComesBeforeLines b.error → Keeps (W.contents writer.old) (W.contents writer.new)) }
-    ensures asked { IfErr result (λ b. IsAskedFor options.now b.error) }
-    ensures faults { IfErr result (λ b. IsOfHead b.error) }
+    ensures silent { IfErr result (λ f. ComesBeforeLines f.error → Keeps (W.contents writer.old) (W.contents writer.new)) }
+    ensures asked { IfErr result (λ f. IsAskedFor options.now f.error) }
 {
     let ready = set_up(rt, alloc, options)?;
     let begun = files.begin_files(rt, alloc)?;
@@ -213,7 +213,7 @@ fn run_ready<R: Files<File = File> + Clock + Eprint + Wait, W: Write>(
     rows: &ToldRows,
     ready: Ready,
     options: &HeadOptions<'_>,
-) -> Result<LedOut, Because<Fault>>
+) -> Result<LedOut, HeadFailure>
     requires list { (text : List ℕ) × SpellsList options.now.listen text ready.asked.list }
     requires opening { IsOpeningOf options.now.opening ready.asked.opened }
     requires opened { IsTrue (is_some ready.asked.opened) → IsTrue (is_some options.now.opening) }
@@ -223,9 +223,8 @@ fn run_ready<R: Files<File = File> + Clock + Eprint + Wait, W: Write>(
     requires links { IsHeadSealing options.now.sealing options.now.head (listed_in ready.asked.list) (links_in ready.sealing) }
     ensures led { IfOk result (HasLedOut options.now) }
     ensures stays { OnOk result (options.now.stays ≡ false) }
-    ensures silent { IfErr result (λ b. ComesBeforeLines b.error → Keeps (W.contents writer.old) (W.contents writer.new)) }
-    ensures asked { IfErr result (λ b. IsAskedFor options.now b.error) }
-    ensures faults { IfErr result (λ b. IsOfHead b.error) }
+    ensures silent { IfErr result (λ f. ComesBeforeLines f.error → Keeps (W.contents writer.old) (W.contents writer.new)) }
+    ensures asked { IfErr result (λ f. IsAskedFor options.now f.error) }
 {
     let Ready {
         port,
@@ -265,9 +264,9 @@ fn run_ready<R: Files<File = File> + Clock + Eprint + Wait, W: Write>(
         options,
     ) {
         Ok(()) => Ok(LedOut::of(&unlisted, daemon.counts().failed)),
-        Err(because) => {
-            told.fault(alloc, because.error);
-            Err(of_book(because, daemon.device()))
+        Err(failure) => {
+            told.fault(alloc, failure.error);
+            Err(failure.of_book(daemon.device()))
         }
     }
 }
@@ -277,26 +276,21 @@ fn daemon_of(
     alloc: Global,
     kept: KeptHead<FileDevice>,
     options: &HeadOptions<'_>,
-) -> Result<HeadDaemon<FileDevice>, Fault>
+) -> Result<HeadDaemon<FileDevice>, Stop>
     ensures made { IfOk result (IsDaemonOf kept options.now.timing options.now.plan) }
-    ensures faults { IfErr result (λ f. f ≡ Fault.OutOfMemory) }
+    ensures memory { IfErr result (λ stop. stop ≡ Stop.OutOfMemory) }
 {
     let nobody = MeterList::none(alloc);
     Ok(HeadDaemon::new(alloc, kept, &nobody, options.timing, options.plan)?)
 }
 
-/// A fault of a head end whose book is on this device. A fault of the book gets the cause of the device.
-pub(crate) fn of_book(because: Because<Fault>, device: &FileDevice) -> Because<Fault>
-    ensures fault { result.error ≡ because.error }
-    ensures book { because.error ≡ Fault.BookFault → result.reason ≡ reason_of (cause_of device.now) }
-    ensures others { because.error ≢ Fault.BookFault → result.reason ≡ because.reason }
+/// Why the file of the book on this device was refused, if this error is of that.
+pub(crate) fn reason_of_book(error: KeptError, device: &FileDevice) -> Option<Reason>
+    ensures { result ≡ book_reason error (cause_of device.now) }
 {
-    match because.error {
-        Fault::BookFault => Because {
-            error: Fault::BookFault,
-            reason: reason_of(device.cause()),
-        },
-        _ => because,
+    match error {
+        KeptError::BookFault => reason_of(device.cause()),
+        KeptError::Refused(_) | KeptError::Full | KeptError::OutOfMemory => None,
     }
 }
 
@@ -305,11 +299,9 @@ fn strangers_of(
     alloc: Global,
     options: &HeadOptions<'_>,
     list: &[Listed],
-) -> Result<Strangers, Fault>
-    ensures faults { IfErr result (λ f. f ≡ Fault.OutOfMemory) }
-{
+) -> Result<Strangers, AllocError> {
     if options.capture.is_some() {
-        Ok(Strangers::of_head(alloc, list, options.captures_strangers)?)
+        Strangers::of_head(alloc, list, options.captures_strangers)
     } else {
         Ok(Strangers::none())
     }
@@ -347,7 +339,7 @@ fn set_up<R: Files<File = File> + Clock + Eprint + Net>(
     rt: &R,
     alloc: Global,
     options: &HeadOptions<'_>,
-) -> Result<Ready, Because<Fault>>
+) -> Result<Ready, HeadFailure>
     ensures list { IfOk result (λ ready. (text : List ℕ) × SpellsList options.now.listen text ready.asked.list) }
     ensures opening { IfOk result (λ ready. IsOpeningOf options.now.opening ready.asked.opened) }
     ensures opened { IfOk result (λ ready. IsTrue (is_some ready.asked.opened) → IsTrue (is_some options.now.opening)) }
@@ -356,8 +348,7 @@ fn set_up<R: Files<File = File> + Clock + Eprint + Net>(
     ensures changes { IfOk result (λ ready. AreChanges (book_of ready.kept) options.now.cancel.items ready.asked.opened (listed_in ready.asked.list)
         ready.changes) }
     ensures links { IfOk result (λ ready. IsHeadSealing options.now.sealing options.now.head (listed_in ready.asked.list) (links_in ready.sealing)) }
-    ensures asked { IfErr result (λ b. IsAskedFor options.now b.error) }
-    ensures faults { IfErr result (λ b. IsOfHeadSetup b.error) }
+    ensures asked { IfErr result (λ f. IsAskedFor options.now f.error) }
 {
     let asked = asked_of(rt, alloc, options)?;
     let keyed = keyed_head(
@@ -389,12 +380,11 @@ fn asked_of<F: Files<File = File> + Clock + Net>(
     rt: &F,
     alloc: Global,
     options: &HeadOptions<'_>,
-) -> Result<Asked, Fault>
+) -> Result<Asked, HeadError>
     ensures list { IfOk result (λ asked. (text : List ℕ) × SpellsList options.now.listen text asked.list) }
     ensures opening { IfOk result (λ asked. IsOpeningOf options.now.opening asked.opened) }
     ensures opened { IfOk result (λ asked. IsTrue (is_some asked.opened) → IsTrue (is_some options.now.opening)) }
     ensures asked { IfErr result (IsAskedFor options.now) }
-    ensures faults { IfErr result IsOfHeadSetup }
 {
     let list = list_of_file(rt, alloc, options.meters, options.listen)?;
     let Some(opening) = options.opening else {
@@ -424,15 +414,14 @@ fn led_head<R: Files<File = File> + Clock + Eprint>(
     options: &HeadOptions<'_>,
     asked: &Asked,
     keyed: Option<Keyed<'_>>,
-) -> Result<Led, Because<Fault>>
+) -> Result<Led, HeadFailure>
     requires opened { IsTrue (is_some asked.now.opened) → IsTrue (is_some options.now.opening) }
     requires keyed { options_of keyed ≡ options.now.sealing }
     ensures number { IfOk result (λ led. (book_of led.kept).head ≡ options.now.head) }
     ensures width { IfOk result (λ led. BeginsWith (book_of led.kept) options.now.width (head_of led.kept)) }
     ensures changes { IfOk result (λ led. AreChanges (book_of led.kept) options.now.cancel.items asked.now.opened (listed_in asked.now.list) led.changes) }
     ensures links { IfOk result (λ led. links_in led.sealing ≡ links_of keyed.entry) }
-    ensures asked { IfErr result (λ b. IsAskedFor options.now b.error) }
-    ensures faults { IfErr result (λ b. IsOfHeadSetup b.error) }
+    ensures asked { IfErr result (λ f. IsAskedFor options.now f.error) }
 {
     if options.book.is_new {
         new_head(rt, alloc, options, asked, keyed)
@@ -448,17 +437,17 @@ fn old_head<R: Files<File = File> + Clock + Eprint>(
     options: &HeadOptions<'_>,
     asked: &Asked,
     keyed: Option<Keyed<'_>>,
-) -> Result<Led, Because<Fault>>
+) -> Result<Led, HeadFailure>
+    requires is_old { options.now.book.is_new ≡ false }
     requires opened { IsTrue (is_some asked.now.opened) → IsTrue (is_some options.now.opening) }
     requires keyed { options_of keyed ≡ options.now.sealing }
     ensures number { IfOk result (λ led. (book_of led.kept).head ≡ options.now.head) }
     ensures width { IfOk result (λ led. BeginsWith (book_of led.kept) options.now.width (head_of led.kept)) }
     ensures changes { IfOk result (λ led. AreChanges (book_of led.kept) options.now.cancel.items asked.now.opened (listed_in asked.now.list) led.changes) }
     ensures links { IfOk result (λ led. links_in led.sealing ≡ links_of keyed.entry) }
-    ensures asked { IfErr result (λ b. IsAskedFor options.now b.error) }
-    ensures faults { IfErr result (λ b. IsOfHeadSetup b.error) }
+    ensures asked { IfErr result (λ f. IsAskedFor options.now f.error) }
 {
-    let kept = kept_head(rt, alloc, options.book, options.head, options.width)?;
+    let kept = open_book(rt, alloc, options.book.path, options.head, options.width)?;
     let changes = judge(alloc, kept.head().view().book, &options.cancel, asked)?;
     let links = JudgedSealing::of(rt, alloc, keyed)?;
     let file = CaptureFile::opened(rt, alloc, options.capture)?;
@@ -478,7 +467,7 @@ fn new_head<R: Files<File = File> + Clock + Eprint>(
     options: &HeadOptions<'_>,
     asked: &Asked,
     keyed: Option<Keyed<'_>>,
-) -> Result<Led, Because<Fault>>
+) -> Result<Led, HeadFailure>
     requires is_new { IsTrue options.now.book.is_new }
     requires opened { IsTrue (is_some asked.now.opened) → IsTrue (is_some options.now.opening) }
     requires keyed { options_of keyed ≡ options.now.sealing }
@@ -486,8 +475,7 @@ fn new_head<R: Files<File = File> + Clock + Eprint>(
     ensures width { IfOk result (λ led. BeginsWith (book_of led.kept) options.now.width (head_of led.kept)) }
     ensures changes { IfOk result (λ led. AreChanges (book_of led.kept) options.now.cancel.items asked.now.opened (listed_in asked.now.list) led.changes) }
     ensures links { IfOk result (λ led. links_in led.sealing ≡ links_of keyed.entry) }
-    ensures asked { IfErr result (λ b. IsAskedFor options.now b.error) }
-    ensures faults { IfErr result (λ b. IsOfHeadSetup b.error) }
+    ensures asked { IfErr result (λ f. IsAskedFor options.now f.error) }
 {
     check_absent(rt, options.book.path)?;
     let changes = judge(
@@ -507,7 +495,7 @@ fn made_head<R: Files<File = File> + Clock + Eprint>(
     asked: &Asked,
     changes: Changes,
     keyed: Option<Keyed<'_>>,
-) -> Result<Led, Because<Fault>>
+) -> Result<Led, HeadFailure>
     requires is_new { IsTrue options.now.book.is_new }
     requires changes { AreChanges (empty_book options.now.head) options.now.cancel.items asked.now.opened (listed_in asked.now.list) changes }
     requires judged { IsJudged (empty_book options.now.head) asked.now.opened changes }
@@ -516,13 +504,12 @@ fn made_head<R: Files<File = File> + Clock + Eprint>(
     ensures width { IfOk result (λ led. BeginsWith (book_of led.kept) options.now.width (head_of led.kept)) }
     ensures changes { IfOk result (λ led. AreChanges (book_of led.kept) options.now.cancel.items asked.now.opened (listed_in asked.now.list) led.changes) }
     ensures links { IfOk result (λ led. links_in led.sealing ≡ links_of keyed.entry) }
-    ensures asked { IfErr result (λ b. IsAskedFor options.now b.error) }
-    ensures faults { IfErr result (λ b. IsOfHeadSetup b.error) }
+    ensures asked { IfErr result (λ f. IsAskedFor options.now f.error) }
 {
     let links = JudgedSealing::of(rt, alloc, keyed)?;
     let file = CaptureFile::opened(rt, alloc, options.capture)?;
     let sealing = links.made(rt, alloc)?;
-    let made = kept_head(rt, alloc, options.book, options.head, options.width)?;
+    let made = make_book(rt, alloc, options.book.path, options.head, options.width)?;
     Ok(Led {
         kept: made,
         changes,
@@ -562,13 +549,13 @@ pub(crate) fn bytes_of_file<F: Files<File = File>>(
     }
 }
 
-/// Cancels the campaign of this serial number, and writes its line once that is on the device.
+/// Cancels the campaign of this serial number, and writes its line once that is on the device. A book has no campaign of number 0.
 pub(crate) fn cancel_one<W: Write>(
     alloc: Global,
     lines: &mut Lines<'_, W>,
     kept: &mut KeptHead<FileDevice>,
     serial: u32,
-) -> Result<(), Fault>
+) -> Result<(), KeptError>
     ensures cancelled { OnOk result (head_of kept.new ≡ cancelled_head (head_of kept.old) serial) }
     ensures writer { lines.new.writer.ghost_name ≡ lines.old.writer.ghost_name }
     ensures told { TellsChanges (head_of kept.old) (head_of kept.new) lines.old.lost lines.new.lost (W.contents lines.old.writer.now)
@@ -577,14 +564,13 @@ pub(crate) fn cancel_one<W: Write>(
         (W.contents lines.old.writer.now) (W.contents lines.new.writer.now)) }
     ensures same { OnErr result (head_of kept.new ≡ head_of kept.old) }
     ensures untold { OnErr result ((lines.new.lost ≡ lines.old.lost) × (W.contents lines.new.writer.now ≡ W.contents lines.old.writer.now)) }
-    ensures refused { 1 ≤ serial → IfErr result (IsCancelFault (cancel_refusal (book_of kept.old) (campaign_at (head_of kept.old) serial))) }
-    ensures faults { IfErr result IsOfCancelling }
+    ensures refused { 1 ≤ serial → IfErr result (IsRefusedFor (cancel_refusal (book_of kept.old) (campaign_at (head_of kept.old) serial))) }
 {
     let campaign = CampaignId::new(kept.head().view().book.head(), serial);
-    cancel(kept, alloc, serial)?;
     let Some(campaign) = campaign else {
-        unreachable!();
+        return Err(KeptError::Refused(BookError::NoSuchCampaign));
     };
+    kept.cancel(alloc, serial)?;
     lines.tell_cancelled(campaign);
     Ok(())
 }
@@ -601,7 +587,7 @@ fn lead<R: Files<File = File> + Clock + Eprint + Wait, W: Write, D: JournalDevic
     daemon: &mut HeadDaemon<D>,
     waves: &Waves<'_>,
     options: &HeadOptions<'_>,
-) -> Result<(), Because<Fault>>
+) -> Result<(), HeadFailure>
     // It waits for answers, and has as many datagrams out, as the options say.
     requires waits { timing_of daemon.old ≡ options.now.timing }
 
@@ -614,9 +600,7 @@ fn lead<R: Files<File = File> + Clock + Eprint + Wait, W: Write, D: JournalDevic
     ensures asks { OnOk result (meters_of daemon.new ≡ listed_in waves.now.list.now) }
     ensures ran_out { OnOk result (HasRunOut daemon.new) }
     ensures stays { OnOk result (options.now.stays ≡ false) }
-    ensures asked { IfErr result (λ b. IsOfCapture b.error → IsTrue (is_some port.entry.capture)) }
-    ensures keyed { IfErr result (λ b. IsKeyed options.now.sealing b.error) }
-    ensures faults { IfErr result (λ b. IsOfStop b.error) }
+    ensures asked { IfErr result (λ f. IsOfLeading port.entry.capture options.now.sealing f.error) }
 {
     let RecordedPort {
         port: Listening {
@@ -628,9 +612,9 @@ fn lead<R: Files<File = File> + Clock + Eprint + Wait, W: Write, D: JournalDevic
         capture,
         sealing,
     } = port;
-    match start_head(rt, alloc, capture, file.as_mut(), options.head) {
+    match begin_recording(rt, alloc, capture, file.as_mut(), options.head) {
         Ok(()) => {}
-        Err(because) => return Err(because),
+        Err(failure) => return Err(failure),
     }
     let recorder = file.as_mut();
     let port = CapturePort::of_head(rt, alloc, &mut socket, at, &mut strangers, recorder);
@@ -647,24 +631,71 @@ fn lead<R: Files<File = File> + Clock + Eprint + Wait, W: Write, D: JournalDevic
         }
     };
     let cause = failure_of(file.as_ref());
-    let ended = end_capture(capture, file.as_ref());
+    let ended = end_recording(capture, file.as_ref());
     match led {
         Ok(()) => {}
-        Err((WaveStop::Stop(Stop::Closed), by)) => {
-            return Err(closing(capture, options.sealing, by, cause));
-        }
-        Err((WaveStop::Stop(stop), _)) => return Err(Because::from(Fault::from(stop))),
-        Err((WaveStop::TooManyFailed(stop), _)) => {
-            return Err(Because::from(Fault::TooManyFailed(stop.failed)));
-        }
+        Err((stop, by)) => return Err(stop_failure(stop, capture, options.sealing, by, cause)),
     }
     match ended {
         Ok(()) => {}
-        Err(because) => return Err(because),
+        Err(failure) => return Err(failure),
     }
     let counts = daemon.counts();
     lines.tell_over(counts);
     Ok(())
+}
+
+/// Puts the note of a start into the capture, if there is one.
+fn begin_recording<C: Clock>(
+    rt: &C,
+    alloc: Global,
+    capture: Option<&str>,
+    file: Option<&mut CaptureFile>,
+    head: HeadId,
+) -> Result<(), HeadFailure>
+    ensures { (sealing : Option Sealed) → IfErr result (λ f. IsOfLeading capture.entry sealing f.error) }
+{
+    match start_head(rt, alloc, capture, file, head) {
+        Ok(()) => Ok(()),
+        Err(because) => Err(not_recorded(because)),
+    }
+}
+
+/// Puts the capture on the disk, if there is one.
+fn end_recording(capture: Option<&str>, file: Option<&CaptureFile>) -> Result<(), HeadFailure>
+    ensures { (sealing : Option Sealed) → IfErr result (λ f. IsOfLeading capture.entry sealing f.error) }
+{
+    match end_capture(capture, file) {
+        Ok(()) => Ok(()),
+        Err(because) => Err(not_recorded(because)),
+    }
+}
+
+/// Why the command ended, if its capture has no note of its start, or isn't put on the disk.
+fn not_recorded(because: Because<ClosingError>) -> HeadFailure
+    ensures { result ≡ record { error = head_of_closing because.error; reason = because.reason } }
+{
+    HeadFailure::from(because)
+}
+
+/// Why the command ended, if a rollout stopped, with its port closed so.
+fn stop_failure(
+    stop: WaveStop,
+    capture: Option<&str>,
+    sealing: Option<SealingOptions<'_>>,
+    by: ClosedBy,
+    cause: Option<Cause>,
+) -> HeadFailure
+    ensures { IsOfLeading capture.entry sealing.entry result.error }
+{
+    match stop {
+        WaveStop::Stop(Stop::Closed) => not_recorded(closing(capture, sealing, by, cause)),
+        WaveStop::Stop(stop) => HeadFailure::from(stop),
+        WaveStop::TooManyFailed(stop) => HeadFailure {
+            error: HeadError::TooManyFailed(stop.failed),
+            reason: None,
+        },
+    }
 }
 
 /// Leads the rows of a head end without keys to their ends. If it doesn't, it returns why its port is closed too, if it is.

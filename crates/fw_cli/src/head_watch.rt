@@ -1,22 +1,18 @@
 //! What a head end writes of itself beside its lines and its progress: events, and metrics.
 
-ghost use Rattle.std.specs.Prelude.{◌≡◌, IfErr, OnOk};
-
 use crate::going_on::count_in;
+use crate::head_error::HeadError;
 use fw_book::{Book, Notes, RowState};
+use fw_disk::Cause;
 use fw_events::{Event, Figures, ToldRows, untold_events};
-use fw_faults::Fault;
 use fw_head::HeadCore;
-use fw_host::{EventFile, HeadProgress, MetricsFile};
+use fw_host::{EventFile, HeadProgress, MetricsFile, Unwritten};
 use fw_names::CampaignId;
-use fw_rollout::{Counts, HeadWatch, Stuck};
+use fw_rollout::{Counts, HeadWatch, SECOND, Stuck};
 use fw_status::push_campaigns;
 use std::alloc::{AllocError, Global};
 use std::fs::File;
 use std::rt::{Clock, Files};
-
-/// The microseconds of a second, after which events are on the disk.
-const SECOND: u64 = 1_000_000;
 
 /// The microseconds from one page of metrics to the next.
 const PAGE: u64 = 15 * SECOND;
@@ -62,9 +58,7 @@ impl<'a, R: Files<File = File>> HeadTold<'a, R> {
         told: &ToldRows,
         book: &Book,
         notes: &Notes,
-    ) -> Result<(), Fault>
-        ensures faults { IfErr result (λ f. f ≡ Fault.OutOfMemory) }
-    {
+    ) -> Result<(), AllocError> {
         let Some(events) = self.events else {
             return Ok(());
         };
@@ -81,15 +75,15 @@ impl<'a, R: Files<File = File>> HeadTold<'a, R> {
         Ok(())
     }
 
-    /// Tells that a fault ended a head end, if there is memory for its name.
-    pub(crate) fn fault(&self, alloc: Global, fault: Fault) {
-        if let (Some(events), Ok(name)) = (self.events, fault.to_string(alloc)) {
+    /// Tells that an error ended a head end, if there is memory for its name.
+    pub(crate) fn fault(&self, alloc: Global, error: HeadError) {
+        if let (Some(events), Ok(name)) = (self.events, error.to_string(alloc)) {
             events.tell_fault(name.as_str());
         }
     }
 }
 
-/// What looks at a head end while it leads. A write that fails is passed over.
+/// What looks at a head end while it leads. If an event or a page of metrics can't be written, standard error is told so, of each once.
 #[derive(Drop)]
 pub(crate) struct Watched<'a, R: Clock + Eprint> {
     rt: &'a R,
@@ -101,6 +95,10 @@ pub(crate) struct Watched<'a, R: Clock + Eprint> {
     synced_at: u64,
     told_at: u64,
     written_at: u64,
+    /// Whether standard error was told that an event was lost.
+    has_told_event: bool,
+    /// Whether it was told that a page wasn't written.
+    has_told_page: bool,
 }
 
 impl<'a, R: Files<File = File> + Clock + Eprint> Watched<'a, R> {
@@ -120,26 +118,53 @@ impl<'a, R: Files<File = File> + Clock + Eprint> Watched<'a, R> {
             synced_at: 0,
             told_at: 0,
             written_at: 0,
+            has_told_event: false,
+            has_told_page: false,
         }
     }
 
     /// Writes the last page of metrics, and puts events on the disk.
-    pub(crate) fn finish(&self, book: &Book) {
+    pub(crate) fn finish(&mut self, book: &Book) {
         self.write(book);
         if let Some(events) = self.told.events {
             events.sync();
         }
+        self.tell_lost_event();
+    }
+
+    /// Writes a page of metrics, if they are asked for. If it can't be written, that is said once.
+    fn write(&mut self, book: &Book) {
+        match self.write_page(book) {
+            Err(cause) if !self.has_told_page => {
+                self.has_told_page = true;
+                self.progress.tell_unwritten(Unwritten::Page(cause));
+            }
+            _ => {}
+        }
     }
 
     /// Writes a page of metrics, if they are asked for.
-    fn write(&self, book: &Book) {
+    fn write_page(&self, book: &Book) -> Result<(), Cause> {
         let Some(metrics) = &self.told.metrics else {
-            return;
+            return Ok(());
         };
         let mut campaigns = Vec::new(self.alloc);
         // Of when they were opened a page says nothing.
-        if push_campaigns(&mut campaigns, book, &Notes::none(self.alloc)).is_ok() {
-            let _ = metrics.write(&campaigns, self.figures);
+        push_campaigns(&mut campaigns, book, &Notes::none(self.alloc))?;
+        metrics.write(&campaigns, self.figures)
+    }
+
+    /// If an event was lost, that is said once.
+    fn tell_lost_event(&mut self) {
+        let Some(events) = self.told.events else {
+            return;
+        };
+        match events.cause() {
+            Some(cause) if !self.has_told_event => {
+                self.has_told_event = true;
+                self.progress.tell_unwritten(Unwritten::Event(cause));
+            }
+            _ => {}
         }
     }
 
@@ -185,6 +210,7 @@ impl<'a, R: Files<File = File> + Clock + Eprint> HeadWatch for Watched<'a, R> {
             .round(now, counts, faults, unopened, head, stuck);
         self.figures = figures_of(counts, faults, unopened);
         self.tell(now);
+        self.tell_lost_event();
         if is_over(&mut self.written_at, now, PAGE) {
             self.write(head.view().book);
         }

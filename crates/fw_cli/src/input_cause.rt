@@ -7,10 +7,10 @@ ghost use Rattle.fw_plan.specs.Waves.{wave_rows};
 ghost use Rattle.fw_cli.specs.InputCauses.{IsCauseOf, IsCauseOfKeys, IsOfBook, IsOfText, IsOfWaves, IsStopOf};
 
 use crate::head::{HeadOptions, bytes_of_file, list_of_file};
+use crate::head_error::HeadError;
 use crate::keys::{KeyMakingError, KeysOptions};
 use crate::status::bytes_of_book;
 use fw_book::{Book, BookError};
-use fw_faults::Fault;
 use fw_host::{BusyMeter, ListCause, Opening, busy_meter, line_cause, listed_meters};
 use fw_kept::read_kept;
 use fw_names::MeterId;
@@ -52,26 +52,26 @@ impl fmt::Display for InputCause {
     }
 }
 
-/// Why a head end with these options ended by this fault, if that is to be seen in its list or in its book. They are read as they are now.
+/// Why a head end with these options ended by this error, if that is to be seen in its list or in its book. They are read as they are now.
 pub fn head_cause<F: Files<File = File> + Net>(
     rt: &F,
     alloc: Global,
     options: &HeadOptions<'_>,
-    fault: Fault,
+    error: HeadError,
 ) -> Option<InputCause>
-    ensures { IfSome result (IsCauseOf options.now fault) }
+    ensures { IfSome result (IsCauseOf options.now error) }
 {
-    match fault {
-        Fault::BadList(line) => {
+    match error {
+        HeadError::BadList(line) => {
             let cause = cause_in_file(rt, alloc, options.meters, options.listen, line)?;
             Some(InputCause::Line(cause))
         }
-        Fault::OpenRefused(BookError::MeterBusy) => {
+        HeadError::OpenRefused(BookError::MeterBusy) => {
             let opening = options.opening?;
             let busy = busy_now(rt, alloc, options, opening)?;
             Some(InputCause::Busy(busy))
         }
-        Fault::TooManyFailed(_) => {
+        HeadError::TooManyFailed(_) => {
             let stop = failed_now(rt, alloc, options)?;
             Some(InputCause::Failed(stop))
         }

@@ -3,11 +3,12 @@
 ghost use Rattle.std.specs.Prelude.{◌≡◌, None, Err, IfErr};
 ghost use Rattle.fw_store.specs.Setup.{IsSetup};
 ghost use Rattle.fw_store.specs.declared.version.HeaderVersion.TheVariants.{Two};
-ghost use Rattle.fw_host.specs.Meters.{IsOfSetup, IsOfStore, default_factory};
+ghost use Rattle.fw_host.specs.Meters.{default_factory};
+ghost use Rattle.fw_cli.specs.MeterErrors.{IsOfSetup};
 
+use crate::meter_error::MeterFailure;
 use fw_disk::Because;
-use fw_faults::Fault;
-use fw_host::{NewMeter, NewStore, NewStoreError, found_meter};
+use fw_host::{NewMeter, NewStore, NewStoreError, StoreFileError, found_meter};
 use fw_meter::MeterCore;
 use fw_store::FileStore;
 use std::alloc::Global;
@@ -39,9 +40,7 @@ impl Judged {
         self,
         rt: &F,
         path: &str,
-    ) -> Result<MeterCore<FileStore>, Because<Fault>>
-        ensures faults { IfErr result (λ b. IsOfStore b.error) }
-    {
+    ) -> Result<MeterCore<FileStore>, Because<StoreFileError>> {
         match self {
             Judged::Found(meter) => Ok(meter),
             Judged::New(new) => new.meter(rt, path),
@@ -70,20 +69,30 @@ impl<'a> Judge<'a> {
         rt: &F,
         alloc: Global,
         path: &str,
-    ) -> Result<Judged, Because<Fault>>
+    ) -> Result<Judged, MeterFailure>
         ensures fresh { self.new.fresh ≡ self.old.fresh }
-        ensures bad_setup { self.old.fresh.factory_file ≡ None → IfErr result (λ b. b.error ≡ Fault.BadSetup
-            → ¬ IsSetup Two self.old.fresh.block_size self.old.fresh.capacity default_factory) }
-        ensures faults { IfErr result (λ b. IsOfSetup b.error) }
+        ensures number { IfErr result (λ e. e.number ≡ None) }
+        ensures asked { IfErr result (λ e. IsOfSetup self.old.fresh e.error) }
     {
         match found_meter(rt, path) {
             Ok(Some(meter)) => Ok(Judged::Found(meter)),
-            Ok(None) => match self.new_store(rt, alloc) {
-                Ok(new) => Ok(Judged::New(new)),
-                Err(error) => Err(Because::from(Fault::from(error))),
-            },
-            Err(because) => Err(because),
+            Ok(None) => self.new_meter(rt, alloc),
+            Err(because) => Err(MeterFailure::from(because)),
         }
+    }
+
+    /// What a meter is made with.
+    fn new_meter<F: Files<File = File>>(
+        &mut self,
+        rt: &F,
+        alloc: Global,
+    ) -> Result<Judged, MeterFailure>
+        ensures fresh { self.new.fresh ≡ self.old.fresh }
+        ensures number { IfErr result (λ e. e.number ≡ None) }
+        ensures asked { IfErr result (λ e. IsOfSetup self.old.fresh e.error) }
+    {
+        let new = self.new_store(rt, alloc)?;
+        Ok(Judged::New(new))
     }
 
     /// What new meters are made with.

@@ -1,30 +1,29 @@
 //! The command `meter`: a meter in a file answers datagrams over UDP until it is ended.
 
-ghost use Rattle.std.specs.Prelude.{◌≡◌, ◌≢◌, ◌⊎◌, ◌∷◌, [], Bool, None, Some, IfErr, IfOk, IsErr, IsTrue, OnOk, false, is_some};
+ghost use Rattle.std.specs.Prelude.{◌≡◌, ◌≢◌, ◌∷◌, [], Bool, None, Some, IfErr, IfOk, IsErr, OnOk, false};
 ghost use Rattle.std.specs.Io.KnownBytes.{Appends, Keeps};
 ghost use Rattle.std.specs.declared.net.socket_addr.SocketAddr.{SocketAddr as Address};
 ghost use Rattle.fw_daemon.specs.Daemon.{daemon_of};
-ghost use Rattle.fw_store.specs.Setup.{IsSetup};
-ghost use Rattle.fw_store.specs.declared.version.HeaderVersion.TheVariants.{Two};
-ghost use Rattle.fw_cli.specs.Faults.{IsKeyed, IsOfMeter, IsOfServing, NamesMeter, count_of};
-ghost use Rattle.fw_host.specs.Captures.{IsOfCapture};
 ghost use Rattle.fw_daemon.specs.Rounds.{listed};
-ghost use Rattle.fw_host.specs.Meters.{default_factory, listening_line};
+ghost use Rattle.fw_host.specs.Meters.{listening_line};
 ghost use Rattle.fw_host.specs.Strangers.{is_strange, is_stranger};
 ghost use Rattle.fw_host.specs.Telling.{Told};
+ghost use Rattle.fw_cli.specs.MeterErrors.{IsBroughtBy, IsOfServing, NamesMeter, count_of, meter_of_closing};
 ghost use Rattle.fw_cli.specs.Sealing.{IsMeterSealing, links_in};
 ghost use Rattle.fw_cli.specs.Telling.{IsSaid, TellsRounds, happenings_by, lack_of, lines_of};
 
 use crate::capture_file::{CaptureFile, closing, end_capture, failure_of, start_meters};
+use crate::error::{ClosingError, TellingError};
 use crate::fleet::serve_fleet;
 use crate::fleet_watch::FleetWatch;
 use crate::judged::Judge;
 use crate::limit::{Limit, is_due};
+use crate::meter_error::{MeterError, MeterFailure};
 use crate::noted_serving::serve_noted;
 use crate::sealing::{JudgedSealing, keyed_meter};
 use fw_daemon::{Dropped, MeterDaemon, MeterEvent, Watch};
-use fw_disk::{Because, Reason};
-use fw_faults::{Fault, write_text};
+use fw_disk::Because;
+use fw_faults::write_text;
 use fw_host::{
     CapturePort, ClosedBy, DatagramPort, Lines, NewMeter, Sealing, SealingOptions, Strangers,
     SyncedSink, listening_line,
@@ -33,7 +32,7 @@ use fw_journal::FileDevice;
 use fw_port::{Closed, SocketError, UdpPort};
 use fw_sealport::SealedPort;
 use fw_store::FileStore;
-use std::alloc::Global;
+use std::alloc::{AllocError, Global};
 use std::fs::File;
 use std::io::Write;
 use std::net::{Net, SocketAddr};
@@ -60,57 +59,6 @@ pub struct MeterOptions<'a> {
     pub captures_strangers: bool,
     /// What its links are sealed with, where keys are given. There is one meter then, whatever the count.
     pub sealing: Option<SealingOptions<'a>>,
-}
-
-/// Why the command ended.
-#[derive(Clone, Copy, Debug)]
-pub struct MeterFault {
-    /// The fault.
-    pub fault: Fault,
-    /// The number of the meter that couldn't be set up, from 1 on, if there is a count of them.
-    pub number: Option<u32>,
-    /// Why its file, or the one of the capture, was refused, if that is known.
-    pub reason: Option<Reason>,
-}
-
-impl MeterFault {
-    /// The fault of the meter of this number.
-    pub(crate) fn of_meter(because: Because<Fault>, number: u32) -> MeterFault
-        ensures fault { result.fault ≡ because.error }
-        ensures number { result.number ≡ Some number }
-        ensures reason { result.reason ≡ because.reason }
-    {
-        MeterFault {
-            fault: because.error,
-            number: Some(number),
-            reason: because.reason,
-        }
-    }
-}
-
-impl From<Because<Fault>> for MeterFault {
-    ghost from_gives = { λ because ended. ended ≡ record { fault = because.error; number = None; reason = because.reason } };
-
-    fn from(because: Because<Fault>) -> MeterFault {
-        let Because { error, reason } = because;
-        MeterFault {
-            fault: error,
-            number: None,
-            reason,
-        }
-    }
-}
-
-impl From<Fault> for MeterFault {
-    ghost from_gives = { λ fault ended. ended ≡ record { fault = fault; number = None; reason = None } };
-
-    fn from(fault: Fault) -> MeterFault {
-        MeterFault {
-            fault,
-            number: None,
-            reason: None,
-        }
-    }
 }
 
 /// The meter in a file answers datagrams over UDP until the process is ended, at any moment. If no file is there, it is made.
@@ -163,24 +111,20 @@ pub fn run_meter<R: Files<File = File> + Clock + Eprint + Net + Wait, W: Write>(
     alloc: Global,
     writer: &mut W,
     options: MeterOptions<'_>,
-) -> Result<(), MeterFault>
+) -> Result<(), MeterFailure>
     ensures ends { IsErr result }
     ensures number { IfErr result (NamesMeter (count_of options.entry)) }
-    ensures bad_setup { options.entry.fresh.factory_file ≡ None → IfErr result (λ e. e.fault ≡ Fault.BadSetup
-        → ¬ IsSetup Two options.entry.fresh.block_size options.entry.fresh.capacity default_factory) }
-    ensures silent { IfErr result (λ e. e.fault ≢ Fault.Socket → e.fault ≢ Fault.Output → e.fault ≢ Fault.CaptureFault
-        → e.fault ≢ Fault.CounterFault → e.fault ≢ Fault.CounterSpent → Keeps (W.contents writer.old) (W.contents writer.new)) }
-    ensures asked { IfErr result (λ e. IsOfCapture e.fault → IsTrue (is_some options.entry.capture)) }
+    ensures silent { IfErr result (λ e. e.error ≢ MeterError.Socket → e.error ≢ MeterError.Output → e.error ≢ MeterError.CaptureFault
+        → e.error ≢ MeterError.CounterFault → e.error ≢ MeterError.CounterSpent → Keeps (W.contents writer.old) (W.contents writer.new)) }
 
-    // What is of sealed links comes where keys are given alone.
-    ensures keyed { IfErr result (λ e. IsKeyed options.entry.sealing e.fault) }
-    ensures faults { IfErr result (λ e. IsOfMeter e.fault) }
+    // Options that describe no meter, a capture and sealed links: what is of these comes where they are given alone.
+    ensures asked { IfErr result (λ e. IsBroughtBy options.entry e.error) }
 {
     match options.count {
         Some(count) if options.sealing.is_none() => serve_fleet(rt, alloc, writer, &options, count),
         _ => match serve_one(rt, alloc, writer, &options) {
             Ok(()) => Ok(()),
-            Err(because) => Err(MeterFault::from(because)),
+            Err(failure) => Err(failure),
         },
     }
 }
@@ -191,19 +135,17 @@ fn serve_one<R: Files<File = File> + Clock + Eprint + Net + Wait, W: Write>(
     alloc: Global,
     writer: &mut W,
     options: &MeterOptions<'_>,
-) -> Result<(), Because<Fault>>
+) -> Result<(), MeterFailure>
     ensures ends { IsErr result }
-    ensures bad_setup { options.now.fresh.factory_file ≡ None → IfErr result (λ b. b.error ≡ Fault.BadSetup
-        → ¬ IsSetup Two options.now.fresh.block_size options.now.fresh.capacity default_factory) }
-    ensures silent { IfErr result (λ b. b.error ≢ Fault.Socket → b.error ≢ Fault.Output → b.error ≢ Fault.CaptureFault
-        → b.error ≢ Fault.CounterFault → b.error ≢ Fault.CounterSpent → Keeps (W.contents writer.old) (W.contents writer.new)) }
-    ensures asked { IfErr result (λ b. IsOfCapture b.error → IsTrue (is_some options.now.capture)) }
-    ensures keyed { IfErr result (λ b. IsKeyed options.now.sealing b.error) }
-    ensures faults { IfErr result (λ b. IsOfMeter b.error) }
+    ensures number { IfErr result (λ e. e.number ≡ None) }
+    ensures silent { IfErr result (λ e. e.error ≢ MeterError.Socket → e.error ≢ MeterError.Output → e.error ≢ MeterError.CaptureFault
+        → e.error ≢ MeterError.CounterFault → e.error ≢ MeterError.CounterSpent → Keeps (W.contents writer.old) (W.contents writer.new)) }
+    ensures asked { IfErr result (λ e. IsBroughtBy options.now e.error) }
 {
     let port = Listening::of(UdpPort::bind(rt, options.listen))?;
     let keyed = keyed_meter(rt, alloc, options.listen, options.sealing)?;
-    let judged = Judge::of(options.fresh).meter(rt, alloc, options.store)?;
+    let mut judge = Judge::of(options.fresh);
+    let judged = judge.meter(rt, alloc, options.store)?;
     let links = JudgedSealing::of(rt, alloc, keyed)?;
     let strangers = strangers_of(alloc, &options.heads, options.captures_strangers)?;
     let heads = heads_of(alloc, options)?;
@@ -228,11 +170,13 @@ fn serve_one<R: Files<File = File> + Clock + Eprint + Net + Wait, W: Write>(
 }
 
 /// The addresses that may ask a meter.
-pub(crate) fn heads_of(alloc: Global, options: &MeterOptions<'_>) -> Result<Vec<SocketAddr>, Fault>
+pub(crate) fn heads_of(
+    alloc: Global,
+    options: &MeterOptions<'_>,
+) -> Result<Vec<SocketAddr>, AllocError>
     ensures heads { IfOk result (λ heads. heads.items ≡ options.now.heads.items) }
-    ensures faults { IfErr result (λ f. f ≡ Fault.OutOfMemory) }
 {
-    Ok(Vec::from_slice(alloc, &options.heads)?)
+    Vec::from_slice(alloc, &options.heads)
 }
 
 /// The strangers to meters that just these addresses may ask, if there is one.
@@ -240,11 +184,10 @@ pub(crate) fn strangers_of(
     alloc: Global,
     heads: &[SocketAddr],
     are_recorded: bool,
-) -> Result<Strangers, Fault>
+) -> Result<Strangers, AllocError>
     ensures known { IfOk result (λ s. (address : Address) → is_stranger s.known address ≡ is_strange heads.now address) }
-    ensures faults { IfErr result (λ f. f ≡ Fault.OutOfMemory) }
 {
-    Ok(Strangers::of_meter(alloc, heads, are_recorded)?)
+    Strangers::of_meter(alloc, heads, are_recorded)
 }
 
 /// A socket with its address, with those who are strangers to it, with the file of its capture, if one is asked for, and with what its links
@@ -266,7 +209,7 @@ fn serve_daemon<R: Files<File = File> + Clock + Wait, W: Write>(
     port: RecordedPort<'_>,
     daemon: &mut MeterDaemon<FileStore>,
     options: &MeterOptions<'_>,
-) -> Result<(), Because<Fault>>
+) -> Result<(), MeterFailure>
     // Just the addresses of the options may ask, and who has none of them is a stranger.
     requires heads { (daemon_of daemon.old).heads ≡ options.now.heads.items }
     requires strangers { (address : Address) → is_stranger port.strangers.known address ≡ is_strange options.now.heads.items address }
@@ -274,11 +217,10 @@ fn serve_daemon<R: Files<File = File> + Clock + Wait, W: Write>(
     // If keys are given, its links are those of their file. Without keys it has none.
     requires links { IsMeterSealing options.now.listen options.now.sealing (links_in port.sealing) }
     ensures ends { IsErr result }
-    ensures silent { IfErr result (λ b. b.error ≢ Fault.Socket → b.error ≢ Fault.Output → b.error ≢ Fault.CaptureFault
-        → b.error ≢ Fault.CounterFault → b.error ≢ Fault.CounterSpent → Keeps (W.contents writer.old) (W.contents writer.new)) }
-    ensures asked { IfErr result (λ b. IsOfCapture b.error → IsTrue (is_some port.entry.capture)) }
-    ensures keyed { IfErr result (λ b. IsKeyed options.now.sealing b.error) }
-    ensures faults { IfErr result (λ b. IsOfServing b.error) }
+    ensures number { IfErr result (λ e. e.number ≡ None) }
+    ensures silent { IfErr result (λ e. e.error ≢ MeterError.Socket → e.error ≢ MeterError.Output → e.error ≢ MeterError.CaptureFault
+        → e.error ≢ MeterError.CounterFault → e.error ≢ MeterError.CounterSpent → Keeps (W.contents writer.old) (W.contents writer.new)) }
+    ensures asked { IfErr result (λ e. IsOfServing port.entry.capture options.now.sealing e.error) }
 {
     let RecordedPort {
         port,
@@ -290,7 +232,7 @@ fn serve_daemon<R: Files<File = File> + Clock + Wait, W: Write>(
     let heads = options.heads.as_slice();
     match start_meters(rt, alloc, capture, file.as_mut(), 0, heads) {
         Ok(()) => {}
-        Err(because) => return Err(because),
+        Err(because) => return Err(not_started(because)),
     }
     tell_listening(alloc, writer, &port)?;
     let Listening {
@@ -310,7 +252,15 @@ fn serve_daemon<R: Files<File = File> + Clock + Wait, W: Write>(
     let cause = failure_of(file.as_ref());
     // If that fails, why the port is closed is told all the same.
     let _ = end_capture(capture, file.as_ref());
-    Err(closing(capture, options.sealing, by, cause))
+    let closed = closing(capture, options.sealing, by, cause);
+    Err(MeterFailure::from(closed))
+}
+
+/// Why the command ended, if the notes of its start aren't put into its capture.
+pub(crate) fn not_started(because: Because<ClosingError>) -> MeterFailure
+    ensures { result ≡ record { error = meter_of_closing because.error; number = None; reason = because.reason } }
+{
+    MeterFailure::from(because)
 }
 
 /// Serves this meter, which has no keys, until its port is closed. It returns why that is.
@@ -384,16 +334,10 @@ pub(crate) struct Listening {
 
 impl Listening {
     /// A port that was bound, with its address.
-    pub(crate) fn of(bound: Result<UdpPort, SocketError>) -> Result<Listening, Fault>
-        ensures faults { IfErr result (λ f. f ≡ Fault.Socket) }
-    {
-        let Ok(port) = bound else {
-            return Err(Fault::Socket);
-        };
-        match port.address() {
-            Ok(at) => Ok(Listening { port, at }),
-            Err(_) => Err(Fault::Socket),
-        }
+    pub(crate) fn of(bound: Result<UdpPort, SocketError>) -> Result<Listening, SocketError> {
+        let port = bound?;
+        let at = port.address()?;
+        Ok(Listening { port, at })
     }
 }
 
@@ -535,11 +479,10 @@ pub(crate) fn tell_listening<W: Write>(
     alloc: Global,
     writer: &mut W,
     port: &Listening,
-) -> Result<(), Fault>
+) -> Result<(), TellingError>
     ensures written { OnOk result (Appends (W.contents writer.old) (W.contents writer.new) (listening_line port.now.at)) }
-    ensures silent { IfErr result (λ f. f ≢ Fault.Output → Keeps (W.contents writer.old) (W.contents writer.new)) }
-    ensures faults { IfErr result (λ f. (f ≡ Fault.Output) ⊎ (f ≡ Fault.OutOfMemory)) }
+    ensures silent { IfErr result (λ e. e ≢ TellingError.Output → Keeps (W.contents writer.old) (W.contents writer.new)) }
 {
     let line = listening_line(alloc, port.at)?;
-    write_text(writer, line.as_str()).map_err(|_| Fault::Output)
+    write_text(writer, line.as_str()).map_err(|_| TellingError::Output)
 }

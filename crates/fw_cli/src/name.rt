@@ -22,11 +22,11 @@ ghost use Rattle.std.specs.Prelude.{
 ghost use Rattle.std.specs.Io.KnownBytes.{Appends, Keeps};
 ghost use Rattle.hex.specs.Hex.{encode_lower};
 ghost use Rattle.fw_names.specs.Name.{SpellsName};
-ghost use Rattle.fw_book.specs.Contents.{max_image};
+ghost use Rattle.fw_blocks.specs.Cuts.{max_image};
 ghost use Rattle.fw_cli.specs.Naming.{ReadsImage, WritesName, fault_of_name};
 ghost use Rattle.fw_faults.specs.Reading.{Gives, ReadsAll, ReadsUntil, max_input};
 
-use fw_book::MAX_IMAGE_SIZE;
+use fw_blocks::MAX_IMAGE_SIZE;
 use fw_faults::{Fault, InputError, Reads, read_input};
 use fw_names::{CampaignId, ImageName, MAX_NAME_SIZE, name_of};
 use std::alloc::Global;
@@ -171,7 +171,7 @@ fn offered(image: Vec<u8>) -> Result<Vec<u8>, NameError>
     if image.is_empty() {
         return Err(NameError::EmptyImage);
     }
-    if image.len() > MAX_IMAGE_SIZE {
+    if image.len() > MAX_IMAGE_SIZE as usize {
         return Err(NameError::ImageTooLong);
     }
     Ok(image)

@@ -12,7 +12,7 @@ ghost use Rattle.fw_cli.specs.declared.status.StatusError.TheVariants.{OutOfMemo
 use fw_disk::{Because, Cause, Name};
 use fw_faults::{Fault, write_text};
 use fw_host::untaken_line;
-use fw_kept::{OpenError, read_kept};
+use fw_kept::{ReadingError, read_kept};
 use fw_rows::{NotedRow, push_noted};
 use fw_status::{CampaignStatus, Listing, StatusForm, append_status, push_campaigns};
 use std::alloc::{AllocError, Global};
@@ -68,16 +68,14 @@ impl From<AllocError> for StatusError {
     }
 }
 
-impl From<OpenError> for StatusError {
+impl From<ReadingError> for StatusError {
     ghost from_gives = { λ error e. e ≡ status_error error };
 
-    fn from(error: OpenError) -> StatusError {
+    fn from(error: ReadingError) -> StatusError {
         match error {
-            OpenError::BadBook { offset } => StatusError::BadBook(offset),
-            OpenError::BadRecord { index } => StatusError::BadRecord(index),
-            // Bytes that are read are any head end's, and no device fails.
-            OpenError::ForeignHead | OpenError::BookFault => StatusError::BookFault,
-            OpenError::OutOfMemory => StatusError::OutOfMemory,
+            ReadingError::BadBook { offset } => StatusError::BadBook(offset),
+            ReadingError::BadRecord { index } => StatusError::BadRecord(index),
+            ReadingError::OutOfMemory => StatusError::OutOfMemory,
         }
     }
 }

@@ -12,7 +12,7 @@ ghost use Rattle.fw_cli.specs.declared.survey.SurveyError.TheVariants as refused
 use crate::error::{FileError, ListFileError};
 use crate::head::{bytes_of_file, list_of_file};
 use crate::input_cause::{InputCause, cause_in_file};
-use fw_book::MAX_IMAGE_SIZE;
+use fw_blocks::MAX_IMAGE_SIZE;
 use fw_faults::{Fault, write_text};
 use fw_inventory::{InventoryForm, Offer, append_inventory};
 use fw_names::digest_of;
@@ -220,7 +220,7 @@ fn image_of<F: Files<File = File>>(
     if image.is_empty() {
         return Err(SurveyError::EmptyImage);
     }
-    if image.len() > MAX_IMAGE_SIZE {
+    if image.len() > MAX_IMAGE_SIZE as usize {
         return Err(SurveyError::ImageTooLong);
     }
     Ok(image)

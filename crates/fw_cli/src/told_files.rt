@@ -2,9 +2,9 @@
 
 ghost use Rattle.std.specs.Prelude.{◌≡◌, IfErr, IsTrue, OnErr, is_some};
 
+use crate::head_error::HeadError;
 use fw_disk::{Name, Reason};
 use fw_events::{Figures, ToldRows};
-use fw_faults::Fault;
 use fw_host::{EventFile, MetricsFile};
 use fw_names::HeadId;
 use std::alloc::Global;
@@ -100,15 +100,15 @@ impl<'a> ToldFiles<'a> {
         &mut self,
         rt: &R,
         alloc: Global,
-    ) -> Result<BegunFiles, Fault>
+    ) -> Result<BegunFiles, HeadError>
         ensures untold { OnErr result (IsTrue (is_some self.new.untold)) }
-        ensures faults { IfErr result (λ f. f ≡ Fault.Output) }
+        ensures output { IfErr result (λ e. e ≡ HeadError.Output) }
     {
         match self.begin_both(rt, alloc) {
             Ok(begun) => Ok(begun),
             Err(untold) => {
                 self.untold = Some(untold);
-                Err(Fault::Output)
+                Err(HeadError::Output)
             }
         }
     }

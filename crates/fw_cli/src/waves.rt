@@ -11,12 +11,11 @@ ghost use Rattle.fw_rollout.specs.Rollout.{MayRollOutOver, RollsOutOver, no_othe
 ghost use Rattle.fw_cli.specs.Waves.{AreWaves, AsksNow, IsGateOf, IsWaveStop, wave_lists};
 ghost use Rattle.fw_cli.specs.declared.waves.WaveStop.TheVariants as stopped;
 
-use fw_faults::Fault;
 use fw_host::WaveList;
 use fw_journal::JournalDevice;
 use fw_plan::{Gate, MaxFailed, TooManyFailed, WaveMeter, gate_of, wave_rows};
 use fw_rollout::{HeadDaemon, HeadPort, HeadWatch, Stop, serve_plan};
-use std::alloc::Global;
+use std::alloc::{AllocError, Global};
 use std::sync::Wait;
 
 /// The waves of a rollout: the meters of a list, each with its wave, and how many rows may fail.
@@ -51,9 +50,8 @@ impl<'a> Waves<'a> {
         alloc: Global,
         list: &'a WaveList,
         max_failed: MaxFailed,
-    ) -> Result<Waves<'a>, Fault>
+    ) -> Result<Waves<'a>, AllocError>
         ensures waves { IfOk result (AreWaves list.now max_failed) }
-        ensures faults { IfErr result (λ f. f ≡ Fault.OutOfMemory) }
     {
         let meters = list.waves(alloc)?;
         Ok(Waves {

@@ -6,7 +6,7 @@ use Rattle.fw_wrapper.specs.Laws as wrapper
 use Rattle.fw_names.specs.Name.{Name, SpellsName}
 use Rattle.fw_names.specs.Laws as names
 use Rattle.fw_apdu.specs.Laws as apdu
-use Rattle.fw_wrapper.specs.Wrapper.{Wraps}
+use Rattle.fw_wrapper.specs.Wrapper.{Wraps, wport}
 use Rattle.fw_apdu.specs.declared.error.ApduError.{ApduError}
 use Rattle.fw_apdu.specs.declared.error.ApduError.TheVariants.{OutOfMemory}
 use Rattle.fw_apdu.specs.Fault.{IfMemory}
@@ -268,8 +268,8 @@ ignores c datagram (Some x) e a = absurd cc
 -- ---- out of memory
 
 -- a datagram from and to port 1 carries the Data that its APDU may return
-pub data_carried : (datagram apdu : List ℕ) (source dest : ℕ) (e : ApduError) → source ≡ 1 → dest ≡ 1 → Wraps datagram source dest apdu → e ≡ OutOfMemory → IfMemory e (MayReturnData apdu) → MayCarryData datagram
+pub data_carried : (datagram apdu : List ℕ) (source dest : ℕ) (e : ApduError) → source ≡ wport → dest ≡ wport → Wraps datagram source dest apdu → e ≡ OutOfMemory → IfMemory e (MayReturnData apdu) → MayCarryData datagram
 data_carried datagram apdu source dest e from to wraps is takes =
-    let wraps' : Wraps datagram 1 dest apdu = subst (λ (p : ℕ). Wraps datagram p dest apdu) from wraps in
+    let wraps' : Wraps datagram wport dest apdu = subst (λ (p : ℕ). Wraps datagram p dest apdu) from wraps in
     let T : ApduError → Type 0 = λ x. IfMemory x (MayReturnData apdu) in
-    (apdu, subst (λ (p : ℕ). Wraps datagram 1 p apdu) to wraps', subst T is takes)
+    (apdu, subst (λ (p : ℕ). Wraps datagram wport p apdu) to wraps', subst T is takes)

@@ -1,11 +1,12 @@
 -- Public vocabulary: what a client asks of a meter's Image transfer object and of its active firmware identifier, and the request
 -- that asks it (IEC 62056-6-2, class_id 18, version 0, and Data, class_id 1; IEC 62056-5-3).
 use Rattle.std.specs.Prelude.{◌≤◌, ℕ, ℤ, pos, true, List, length, Some}
+use Rattle.fw_blocks.specs.Cuts.{max_block_size}
 use Rattle.fw_axdr.specs.Value.{Value, structure, boolean, double_long_unsigned, octet_string, integer, none, more}
 use Rattle.fw_names.specs.Name.{Name, name_bytes}
 use Rattle.fw_apdu.specs.Cosem as cosem
 use Rattle.fw_apdu.specs.Request.{Descriptor, RequestContent, get_request, set_request, action_request, SpellsRequest}
-use Rattle.fw_wrapper.specs.Wrapper.{Wraps}
+use Rattle.fw_wrapper.specs.Wrapper.{Wraps, wport}
 use Rattle.fw_client.specs.declared.ask.Asked.{Asked}
 use Rattle.fw_client.specs.declared.ask.Asked.TheVariants as asked
 
@@ -64,11 +65,11 @@ kind_of activate = asked.Activate
 
 -- a block has at most 1,024 bytes, so that its request fits an APDU
 abbrev pub Fits : Ask → Type 0
-Fits (block number value) = length value ≤ 1024
+Fits (block number value) = length value ≤ max_block_size
 Fits ask = Unit {0}
 
--- a datagram carries a request, with its invoke byte, between the ports 1
+-- a datagram carries a request, with its invoke byte, between the wPorts of both ends
 pub record CarriesRequest (datagram : List ℕ) (invoke : ℕ) (content : RequestContent) : Type 0 where
   pub apdu : List ℕ
-  pub wraps : Wraps datagram 1 1 apdu
+  pub wraps : Wraps datagram wport wport apdu
   pub spells : SpellsRequest apdu invoke content

@@ -2,7 +2,7 @@
 use Rattle.std.specs.Prelude.{◌≡◌, ℕ, ◌⊎◌, List, Some}
 use Rattle.std.specs.FinMap.{get}
 use Rattle.fw_axdr.specs.Value.{octet_string}
-use Rattle.fw_wrapper.specs.Wrapper.{Wraps}
+use Rattle.fw_wrapper.specs.Wrapper.{Wraps, wport}
 use Rattle.fw_names.specs.Name.{SpellsName}
 use Rattle.fw_apdu.specs.Response.{value, ResponseContent, get_response, SpellsResponse, MayReturnData}
 use Rattle.fw_client.specs.Claim.{Claim}
@@ -16,12 +16,12 @@ use Rattle.fw_client.specs.declared.heard.Heard.TheVariants.{Stranger}
 -- a datagram carries a response, with its invoke byte, between the ports 1
 pub record CarriesResponse (datagram : List ℕ) (invoke : ℕ) (content : ResponseContent) : Type 0 where
   pub apdu : List ℕ
-  pub wraps : Wraps datagram 1 1 apdu
+  pub wraps : Wraps datagram wport wport apdu
   pub spells : SpellsResponse apdu invoke content
 
 -- a datagram carries an APDU between the ports 1 that may return a Data that takes memory, whatever it spells
 abbrev pub MayCarryData : List ℕ → Type 0
-MayCarryData datagram = (apdu : List ℕ) × Wraps datagram 1 1 apdu × MayReturnData apdu
+MayCarryData datagram = (apdu : List ℕ) × Wraps datagram wport wport apdu × MayReturnData apdu
 
 -- The datagram answers the ask that is outstanding at this id, and this is heard by it. The whole invoke byte is that of the ask.
 pub record Answers (c : State) (datagram : List ℕ) (id : ℕ) (heard : Heard) : Type 0 where

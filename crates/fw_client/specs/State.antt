@@ -2,6 +2,7 @@
 use Rattle.std.specs.Prelude.{ℕ, ◌+◌, ◌%◌, IsSome}
 use Rattle.std.specs.Ordering.{nat_cmp}
 use Rattle.std.specs.FinMap.{FinMap, empty, get, insert, remove}
+use Rattle.fw_apdu.specs.Request.{invoke_ids}
 use Rattle.fw_client.specs.declared.ask.Asked.{Asked}
 
 -- the asks that no answer came to yet, by their invoke-ids: no reuse of an invoke-id while its ask waits
@@ -24,7 +25,7 @@ invoke_byte id = 0xc0 + id
 
 -- the client once it asked with the next id
 abbrev pub asking : State → Asked → State
-asking c asked = record { meter = c.meter; next = (c.next + 1) % 16; asks = insert c.asks c.next asked }
+asking c asked = record { meter = c.meter; next = (c.next + 1) % invoke_ids; asks = insert c.asks c.next asked }
 
 -- the client once an ask is answered
 abbrev pub without : State → ℕ → State

@@ -6,7 +6,7 @@ ghost use Rattle.fw_axdr.specs.View.{value_of};
 ghost use Rattle.fw_apdu.specs.Request.{get_request, action_request, request_bytes, SpellsRequest};
 ghost use Rattle.fw_apdu.specs.View.{request_content, request_invoke};
 ghost use Rattle.fw_names.specs.Name.{IsName, name_bytes};
-ghost use Rattle.fw_wrapper.specs.Wrapper.{wrapped, max_apdu};
+ghost use Rattle.fw_wrapper.specs.Wrapper.{wrapped, max_apdu, wport};
 ghost use Rattle.fw_client.specs.Ask.{request_of, image_transfer, active_identifier, pair, Fits, CarriesRequest};
 ghost use Rattle.fw_client.specs.Private.{IsNamed};
 ghost use Rattle.fw_client.specs.View.{ask_of};
@@ -16,17 +16,14 @@ use crate::error::OutOfMemory;
 use fw_apdu::{ApduError, Invoke, Request, cosem, write_request};
 use fw_axdr::{Data, Items, Octets};
 use fw_names::ImageName;
-use fw_wrapper::{WrapError, join};
+use fw_wrapper::{WPORT, WrapError, join};
 use std::alloc::{AllocError, Global};
-
-/// The wPort of both ends.
-pub(crate) const PORT: u16 = 1;
 
 /// The datagram that asks, under this invoke byte.
 pub(crate) fn datagram(alloc: Global, invoke: Invoke, ask: &Ask<'_>) -> Result<Vec<u8>, OutOfMemory>
     requires { Fits (ask_of ask.now) }
     ensures written { IfOk result (λ datagram. datagram.items
-        ≡ wrapped 1 1 (request_bytes invoke.0 (request_of (ask_of ask.now)))) }
+        ≡ wrapped wport wport (request_bytes invoke.0 (request_of (ask_of ask.now)))) }
     ensures carries { IfOk result (λ datagram. CarriesRequest datagram.items invoke.0 (request_of (ask_of ask.now))) }
 {
     let apdu = match apdu(alloc, invoke, ask) {
@@ -34,7 +31,7 @@ pub(crate) fn datagram(alloc: Global, invoke: Invoke, ask: &Ask<'_>) -> Result<V
         Err(ApduError::OutOfMemory) => return Err(OutOfMemory),
         Err(_) => unreachable!(),
     };
-    match join(alloc, PORT, PORT, &apdu) {
+    match join(alloc, WPORT, WPORT, &apdu) {
         Ok(datagram) => Ok(datagram),
         Err(WrapError::OutOfMemory) => Err(OutOfMemory),
         Err(_) => unreachable!(),

@@ -2,9 +2,9 @@
 
 ghost use Rattle.std.specs.Prelude.{◌≡◌, ◌↔◌, ◌<◌, IsSome, IfSome, IfOk, OnErr, MatchBool};
 ghost use Rattle.std.specs.FinMap.{get};
-ghost use Rattle.fw_apdu.specs.Request.{request_bytes};
+ghost use Rattle.fw_apdu.specs.Request.{invoke_ids, request_bytes};
 ghost use Rattle.fw_apdu.specs.View.{response_content, response_invoke};
-ghost use Rattle.fw_wrapper.specs.Wrapper.{wrapped};
+ghost use Rattle.fw_wrapper.specs.Wrapper.{wrapped, wport};
 ghost use Rattle.fw_client.specs.Claim.{Claim};
 ghost use Rattle.fw_client.specs.Ask.{request_of, kind_of, Fits, CarriesRequest};
 ghost use Rattle.fw_client.specs.State.{fresh, asking, forgetting, invoke_byte, IsWaiting};
@@ -18,8 +18,8 @@ use crate::error::{AskError, OutOfMemory};
 use crate::heard::Heard;
 use crate::laws;
 use crate::matching::{invoke_of, matched, response_in};
-use crate::outstanding::{IDS, Outstanding};
-use fw_apdu::{Invoke, Response};
+use crate::outstanding::Outstanding;
+use fw_apdu::{INVOKE_IDS, Invoke, Response};
 use fw_names::MeterId;
 use std::alloc::Global;
 use std::marker::Model;
@@ -40,6 +40,7 @@ impl Model for Client {
     ghost use Rattle.std.specs.Prelude.{◌<◌};
     ghost use Rattle.std.specs.Coded.{codes};
     ghost use Rattle.std.specs.FinMap.{code};
+    ghost use Rattle.fw_apdu.specs.Request.{invoke_ids};
     ghost use Rattle.fw_client.specs.State.{State};
 
     ghost Value = { State };
@@ -48,7 +49,7 @@ impl Model for Client {
 
     ghost view = { λ c. record { meter = c.meter; next = c.next; asks = c.outstanding } };
 
-    ghost invariant = { λ c. c.next < 16 };
+    ghost invariant = { λ c. c.next < invoke_ids };
 }
 
 impl Client {
@@ -98,10 +99,10 @@ impl Client {
     pub fn ask(&mut self, alloc: Global, ask: &Ask<'_>) -> Result<Vec<u8>, AskError>
         requires { Fits (ask_of ask.now) }
         ensures written { IfOk result (λ datagram. datagram.items
-            ≡ wrapped 1 1 (request_bytes (invoke_byte self.old.next) (request_of (ask_of ask.now)))) }
+            ≡ wrapped wport wport (request_bytes (invoke_byte self.old.next) (request_of (ask_of ask.now)))) }
         ensures carries { IfOk result (λ datagram.
             CarriesRequest datagram.items (invoke_byte self.old.next) (request_of (ask_of ask.now))) }
-        ensures id { self.old.next < 16 }
+        ensures id { self.old.next < invoke_ids }
         ensures asked { IfOk result (λ _. self.new ≡ asking self.old (kind_of (ask_of ask.now))) }
         ensures busy { (result ≡ Err AskError.AllBusy) ↔ IsSome (get self.old.asks self.old.next) }
         ensures same { OnErr result (self.new ≡ self.old) }
@@ -112,7 +113,7 @@ impl Client {
         }
         let datagram = datagram(alloc, Invoke(FIRST_INVOKE + id), ask)?;
         self.outstanding.put(id, ask.kind());
-        self.next = (id + 1) % IDS;
+        self.next = (id + 1) % INVOKE_IDS;
         Ok(datagram)
     }
 
@@ -161,7 +162,7 @@ impl Client {
     /// The id of the ask that a datagram answers, and what is heard by it.
     fn answered(&self, alloc: Global, datagram: &[u8]) -> Result<Option<(u8, Heard)>, OutOfMemory>
         ensures answered { IfOk result (λ found. Finds (λ x. Answers self.now datagram.now x.0 x.1) found) }
-        ensures within { IfOk result (λ found. IfSome found (λ x. x.0 < 16)) }
+        ensures within { IfOk result (λ found. IfSome found (λ x. x.0 < invoke_ids)) }
         ensures memory { OnErr result (MayCarryData datagram.now) }
     {
         fw_wrapper::laws::one_frame();
@@ -175,7 +176,7 @@ impl Client {
     /// The id of the ask that a response answers, and what is heard by it.
     fn answer(&self, response: Response) -> Option<(u8, Heard)>
         ensures answered { Finds (λ x. AnsweredBy self.now (response_invoke response) (response_content response) x.0 x.1) result }
-        ensures within { IfSome result (λ x. x.0 < 16) }
+        ensures within { IfSome result (λ x. x.0 < invoke_ids) }
     {
         let (id, asked) = self.asked_by(invoke_of(&response))?;
         let heard = matched(self.meter, asked, response)?;
@@ -185,7 +186,7 @@ impl Client {
     /// The id of an invoke byte, and what is outstanding there.
     fn asked_by(&self, invoke: Invoke) -> Option<(u8, Asked)>
         ensures asked { Finds (λ x. (get self.now.asks x.0 ≡ Some x.1) × (invoke.0 ≡ invoke_byte x.0)) result }
-        ensures within { IfSome result (λ x. x.0 < 16) }
+        ensures within { IfSome result (λ x. x.0 < invoke_ids) }
     {
         let id = invoke.0.checked_sub(FIRST_INVOKE)?;
         let asked = self.outstanding.at(id)?;

@@ -19,14 +19,13 @@ ghost use Rattle.fw_client.specs.Private.{
 };
 
 use crate::ask::{Asked, Service};
-use crate::asking::PORT;
 use crate::claim::ActiveClaim;
 use crate::error::OutOfMemory;
 use crate::heard::Heard;
 use fw_apdu::{ApduError, GetDataResult, Invoke, Response, read_response};
 use fw_axdr::{Data, Items};
 use fw_names::{ImageName, MeterId};
-use fw_wrapper::split;
+use fw_wrapper::{WPORT, split};
 use std::alloc::Global;
 
 /// The response that a datagram carries, if it carries one between the ports of both ends.
@@ -37,7 +36,7 @@ pub(crate) fn response_in(alloc: Global, datagram: &[u8]) -> Result<Option<Respo
     let Ok(frame) = split(datagram) else {
         return Ok(None);
     };
-    if frame.source != PORT || frame.dest != PORT {
+    if frame.source != WPORT || frame.dest != WPORT {
         return Ok(None);
     }
     match read_response(alloc, frame.apdu) {

@@ -3,17 +3,19 @@
 ghost use Rattle.std.specs.Prelude.{◌≡◌, ◌<◌, ℕ, None, is_some, IsSome, IfSome, MatchBool, Option};
 ghost use Rattle.std.specs.List.{list_any};
 ghost use Rattle.std.specs.FinMap.{empty, get, insert, remove};
+ghost use Rattle.fw_apdu.specs.Request.{invoke_ids};
 
 use crate::ask::Asked;
+use fw_apdu::INVOKE_IDS;
 use std::marker::Model;
 
-/// How many invoke-ids there are.
-pub(crate) const IDS: u8 = 16;
+/// A place for each invoke-id.
+const PLACES: usize = INVOKE_IDS as usize;
 
 /// The outstanding asks, each at the place of its invoke-id.
 #[derive(Drop)]
 pub(crate) struct Outstanding {
-    places: [Option<Asked>; 16],
+    places: [Option<Asked>; PLACES],
 }
 
 // Contracts see a finite map from ids.
@@ -21,6 +23,7 @@ impl Model for Outstanding {
     ghost use Rattle.std.specs.Prelude.{◌≡◌, length};
     ghost use Rattle.std.specs.Coded.{codes};
     ghost use Rattle.std.specs.FinMap.{code};
+    ghost use Rattle.fw_apdu.specs.Request.{invoke_ids};
     ghost use Rattle.fw_client.specs.State.{Asks};
 
     ghost Value = { Asks };
@@ -32,7 +35,7 @@ impl Model for Outstanding {
     ghost view = { λ o. asks_from 0 o.places };
 
     // So no id past the last has a place.
-    ghost invariant = { λ o. length o.places ≡ 16 };
+    ghost invariant = { λ o. length o.places ≡ invoke_ids };
 }
 
 impl Outstanding {
@@ -40,7 +43,9 @@ impl Outstanding {
     pub(crate) fn none() -> Outstanding
         ensures { result ≡ empty }
     {
-        Outstanding { places: [None; 16] }
+        Outstanding {
+            places: [None; PLACES],
+        }
     }
 
     /// The same asks once more.
@@ -56,9 +61,9 @@ impl Outstanding {
     #[tactic(auto, using(crate::proofs::Places::get_asks))]
     pub(crate) fn at(&self, id: u8) -> Option<Asked>
         ensures asked { result ≡ get self.now id }
-        ensures within { IfSome result (λ _. id < 16) }
+        ensures within { IfSome result (λ _. id < invoke_ids) }
     {
-        if id < IDS {
+        if id < INVOKE_IDS {
             self.places[usize::from(id)]
         } else {
             None
@@ -75,7 +80,7 @@ impl Outstanding {
     /// The ask is outstanding at this id, in place of any other.
     #[tactic(auto, using(crate::proofs::Places::asks_put))]
     pub(crate) fn put(&mut self, id: u8, asked: Asked)
-        requires { id < 16 }
+        requires { id < invoke_ids }
         ensures { self.new ≡ insert self.old id asked }
     {
         self.places[usize::from(id)] = Some(asked);
@@ -84,7 +89,7 @@ impl Outstanding {
     /// Nothing is outstanding at this id.
     #[tactic(auto, using(crate::proofs::Places::asks_out))]
     pub(crate) fn take_out(&mut self, id: u8)
-        requires { id < 16 }
+        requires { id < invoke_ids }
         ensures { self.new ≡ remove self.old id }
     {
         self.places[usize::from(id)] = None;

@@ -1,8 +1,8 @@
 -- A header write, call after call, and what a cut at a moment of it leaves.
 use Rattle.std.proofs.Common.{◌≡◌, inl, ℕ, List, refl, sym, subst, ◌∙◌, ap}
-use Rattle.fw_undo.specs.Write.{Write, IsWrite}
-use Rattle.fw_undo.specs.Cut.{IsOn}
-use Rattle.fw_undo.specs.Laws.{OneWrite, EachCutIsMended, OneSectorIsWhole}
+use Rattle.fw_cuts.specs.Write.{Write, IsWrite}
+use Rattle.fw_cuts.specs.Sectors.{IsOn}
+use Rattle.fw_cuts.specs.Laws.{OneWrite, EachCutIsMended, OneSectorIsWhole}
 use Rattle.fw_cuts.specs.Both.{Both}
 use Rattle.fw_cuts.specs.Cuts.{Seen, Goes, Stays, IsSynced}
 use Rattle.fw_cuts.specs.Rest.{IsReadyFor, IsRecovered, SameOutside, IsAtRest, IsOldOrNew}

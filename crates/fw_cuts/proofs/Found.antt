@@ -4,9 +4,9 @@ use Rattle.std.specs.Str.{bytes_eq}
 use Rattle.std.proofs.lemmas.Bool.{cases_Bool}
 use Rattle.std.proofs.lemmas.List.{drop-drop}
 use Rattle.std.proofs.lemmas.Slice.Eq.{bytes_eq-Decides}
-use Rattle.fw_undo.specs.Write.{Write, IsWrite, journal_bytes}
-use Rattle.fw_undo.specs.Cut.{IsOn, Leaves, Mends, after_of}
-use Rattle.fw_undo.specs.Laws.{OneWrite, EachCutIsMended, OneSectorIsWhole}
+use Rattle.fw_cuts.specs.Write.{Write, IsWrite, journal_bytes}
+use Rattle.fw_cuts.specs.Sectors.{IsOn, Leaves, Mends, after_of}
+use Rattle.fw_cuts.specs.Laws.{OneWrite, EachCutIsMended, OneSectorIsWhole}
 use Rattle.fw_cuts.specs.Both.{Both}
 use Rattle.fw_cuts.specs.Rest.{write_on, IsReadyFor, IsRecovered, SameOutside, IsChance, IsOldOrNew}
 use Rattle.fw_cuts.proofs.Splices.{slice_of_take, replaced_front, replaced_last}

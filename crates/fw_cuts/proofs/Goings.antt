@@ -125,6 +125,10 @@ pub on_ok_4 : {T E : Type 0} (result : Result T E) (P Q R S U : Type 0) → (P �
 on_ok_4 (Ok v) P Q R S U follows p q r s = follows p q r s
 on_ok_4 (Err e) P Q R S U follows p q r s = p
 
+pub on_err : {T E : Type 0} (result : Result T E) (P Q : Type 0) → (P → Q) → OnErr result P → OnErr result Q
+on_err (Ok v) P Q follows holds = holds
+on_err (Err e) P Q follows holds = follows holds
+
 -- what holds of a call that was refused
 pub if_err : {T E : Type 0} (result : Result T E) (P : Type 0) → P → OnErr result P
 if_err (Ok v) P holds = tt

@@ -1,7 +1,7 @@
 -- Writes of the parts of a header to FILE, call after call.
 use Rattle.std.proofs.Common.{◌≡◌, inl, inr, ℕ, ◌+◌, ◌≤◌, List, ◌++◌, length, take, slice_range, refl, sym, subst, ◌∙◌, ap, arith, length-drop}
-use Rattle.fw_undo.specs.Write.{Write, IsWrite}
-use Rattle.fw_undo.specs.Cut.{IsOn, Leaves, replaced, after_of}
+use Rattle.fw_cuts.specs.Write.{Write, IsWrite}
+use Rattle.fw_cuts.specs.Sectors.{IsOn, Leaves, replaced, after_of}
 use Rattle.fw_cuts.specs.Both.{Both, On}
 use Rattle.fw_cuts.specs.Cuts.{Seen, Goes, Stays, splice, Cuts, MayResize, IsSynced}
 use Rattle.fw_cuts.specs.Private.{Lays}

@@ -1,8 +1,8 @@
 -- What writes of both parts of a header leave, in whatever order, is what a power cut in the header write may leave.
 use Rattle.std.proofs.Common.{◌≡◌, inl, inr, ⊎_elim, ℕ, ◌+◌, ◌-◌, ◌≤◌, List, ◌++◌, length, take, drop, slice_range, refl, sym, subst, ◌∙◌, ap, arith}
 use Rattle.std.proofs.lemmas.List.{length-take-le, take_all, take_at, take-append-drop}
-use Rattle.fw_undo.specs.Write.{Write, IsWrite}
-use Rattle.fw_undo.specs.Cut.{in_sector, IsEither, IsCut, IsOn, Leaves, replaced, resized}
+use Rattle.fw_cuts.specs.Write.{Write, IsWrite}
+use Rattle.fw_cuts.specs.Sectors.{in_sector, IsEither, IsCut, IsOn, Leaves, replaced, resized}
 use Rattle.fw_cuts.specs.Cuts.{splice, MayResize, Cuts}
 use Rattle.fw_cuts.proofs.Splices.{length-replaced, replaced_last, replaced_front, replaced_again, replaced_same, front_size, splice_same, splice_replaced, splice_last, resized_cut, resized_same, resized_last, length-resized}
 

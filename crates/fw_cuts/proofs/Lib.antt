@@ -7,3 +7,6 @@ mod Cutting
 mod Resting
 mod Pieces
 mod Writing
+mod Spellings
+mod Mending
+mod OneSector

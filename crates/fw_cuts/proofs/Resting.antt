@@ -1,8 +1,8 @@
 -- The files between two header writes.
 use Rattle.std.proofs.Common.{◌≡◌, ℕ, ◌+◌, ◌≤◌, List, [], length, take, drop, refl, subst, ◌∙◌, ap, arith}
-use Rattle.fw_undo.specs.Write.{Write, IsWrite}
-use Rattle.fw_undo.specs.Cut.{IsOn, after_of}
-use Rattle.fw_undo.specs.Laws.{OneWrite}
+use Rattle.fw_cuts.specs.Write.{Write, IsWrite}
+use Rattle.fw_cuts.specs.Sectors.{IsOn, after_of}
+use Rattle.fw_cuts.specs.Laws.{OneWrite}
 use Rattle.fw_cuts.specs.Both.{On}
 use Rattle.fw_cuts.specs.Cuts.{Seen, Goes, Cuts, IsSynced, NoneLost, LosesNoMore}
 use Rattle.fw_cuts.specs.Rest.{IsReadyFor, IsRecovered, SameOutside, IsAtRest}

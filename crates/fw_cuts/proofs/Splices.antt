@@ -1,8 +1,8 @@
--- Bytes in place of others, and what stands before them and after them (as in `fw_undo`).
+-- Bytes in place of others, and what stands before them and after them.
 use Rattle.std.proofs.Common.{◌≡◌, ℕ, ◌+◌, ◌-◌, ◌≤◌, List, [], ◌∷◌, ◌++◌, length, take, drop, slice_range, refl, sym, ap, ◌∙◌, arith, append_assoc, length-append, length-drop, replicate}
 use Rattle.std.proofs.lemmas.List.{length-take, length-take-le, drop-drop, take-append-le, take-append-drop, take-take, take_all, drop_all, append-nil, length-replicate, drop-take, drop_at, take_at}
 use Rattle.std.proofs.Math.Seq.{take-append-add, drop-append-add}
-use Rattle.fw_undo.specs.Cut.{replaced, resized}
+use Rattle.fw_cuts.specs.Sectors.{replaced, resized}
 use Rattle.fw_cuts.specs.Cuts.{splice}
 
 pub length-splice : (old : List ℕ) (at : ℕ) (xs : List ℕ) → at + length xs ≤ length old → length (splice old at xs) ≡ length old

@@ -1,8 +1,8 @@
 -- A header write, as its code has it: what it is of what FILE had at first.
 use Rattle.std.proofs.Common.{◌≡◌, ℕ, ◌+◌, ◌≤◌, List, length, sym, subst, ◌∙◌, ap, Option, None, Some, IfSome, IfNone, refl, arith}
-use Rattle.fw_undo.specs.Write.{Write, IsWrite, journal_bytes}
-use Rattle.fw_undo.specs.Cut.{IsOn, Leaves, replaced, before_of, after_of}
-use Rattle.fw_undo.specs.Laws.{OneWrite, EachCutIsMended, OneSectorIsWhole}
+use Rattle.fw_cuts.specs.Write.{Write, IsWrite, journal_bytes}
+use Rattle.fw_cuts.specs.Sectors.{IsOn, Leaves, replaced, before_of, after_of}
+use Rattle.fw_cuts.specs.Laws.{OneWrite, EachCutIsMended, OneSectorIsWhole}
 use Rattle.fw_cuts.specs.Both.{Both}
 use Rattle.fw_cuts.specs.Cuts.{Seen, Goes, Stays, IsSynced, NoneLost}
 use Rattle.fw_cuts.specs.Rest.{write_on, IsReadyFor, IsAtRest, IsOldOrNew, IsTakenBack}
@@ -84,6 +84,17 @@ module _ (a b m : Seen) (at : ℕ) (bytes : List ℕ) (last_at : ℕ) (last : Li
         let v : Write = back.0 in
         let same : v ≡ u = one v u back.1 fits (sym back.2 ∙ some) in
         back.3 ∙ ap (λ (x : Write). before_of x e.held.store) same ∙ put_back_all e.held.store (lays.reads.lays refl) ∙ ready_same
+
+-- what a taking back makes of FILE is there, if the journal of the write was kept
+pub taken_so : (kept : Option (List ℕ)) (w : Write) (store : List ℕ) → IfSome kept (λ bytes. bytes ≡ journal_bytes w) → IfNone kept (¬ IsWrite w) → IsWrite w
+    → (made : List ℕ) × IsTakenBack kept store made
+taken_so None w store some none is = absurd (none is)
+taken_so (Some journal) w store some none is = (before_of w store, (w, is, some, refl))
+
+-- or if none was to be kept
+pub none_kept : (kept : Option (List ℕ)) (store : List ℕ) → kept ≡ None → (made : List ℕ) × IsTakenBack kept store made
+none_kept None store none = (store, refl)
+none_kept (Some journal) store none = let wrong : Some journal ≡ None = none in cc
 
 -- a header write that failed before it wrote to FILE
 pub unbegun : (kept : Option (List ℕ)) (a e : Seen) → kept ≡ None → e.held.store ≡ a.held.store → (made : List ℕ) → IsTakenBack kept e.held.store made → made ≡ a.held.store

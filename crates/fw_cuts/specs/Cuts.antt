@@ -1,7 +1,7 @@
 -- Public vocabulary: what the calls on the files of a store make of them, and what a power cut may leave, on a disk that writes whole
 -- sectors of 512 bytes in any order.
 use Rattle.std.specs.Prelude.{◌≡◌, ◌⊎◌, ◌≤◌, ◌<◌, ◌+◌, ◌-◌, ℕ, min, List, [], ◌++◌, length, take, drop, slice_range, ⊤}
-use Rattle.fw_undo.specs.Cut.{IsCut, resized}
+use Rattle.fw_cuts.specs.Sectors.{IsCut, resized}
 use Rattle.fw_cuts.specs.Both.{Both, of}
 use Rattle.fw_cuts.specs.declared.files.Part.{Part}
 

@@ -1,7 +1,7 @@
 -- Of private functions.
 use Rattle.std.specs.Prelude.{◌≡◌, ℕ, List}
-use Rattle.fw_undo.specs.Write.{Write}
-use Rattle.fw_undo.specs.Cut.{Leaves}
+use Rattle.fw_cuts.specs.Write.{Write}
+use Rattle.fw_cuts.specs.Sectors.{Leaves}
 use Rattle.fw_cuts.specs.Both.{Both}
 use Rattle.fw_cuts.specs.Cuts.{Seen, IsSynced, NoneLost}
 use Rattle.fw_cuts.specs.declared.files.Part.TheVariants.{Store}

@@ -1,7 +1,7 @@
 -- Public vocabulary: what is found of a header write that was cut.
 use Rattle.std.specs.Prelude.{Option, None, Some, ◌≡◌, ◌≢◌, ◌⊎◌, ◌+◌, ℕ, List, [], length, take, drop, slice_range}
-use Rattle.fw_undo.specs.Write.{Write, IsWrite, journal_bytes}
-use Rattle.fw_undo.specs.Cut.{Mends, ChangesOneSector, before_of, after_of}
+use Rattle.fw_cuts.specs.Write.{Write, IsWrite, journal_bytes}
+use Rattle.fw_cuts.specs.Sectors.{Mends, ChangesOneSector, before_of, after_of}
 use Rattle.fw_cuts.specs.Both.{Both}
 use Rattle.fw_cuts.specs.Cuts.{Seen, IsSynced, NoneLost}
 use Rattle.fw_cuts.specs.declared.files.Part.{Part}

@@ -1,6 +1,6 @@
 //! What a failed sync may have lost.
 
-ghost use Rattle.std.specs.Prelude.{◌≡◌, IsTrue, OnOk};
+ghost use Rattle.std.specs.Prelude.{IsTrue, OnOk, OnErr};
 ghost use Rattle.fw_cuts.specs.Private.{IsWrittenAgain};
 
 use crate::files::{FilesFault, Part, StoreFiles};
@@ -15,7 +15,8 @@ const PIECE_SIZE: usize = 4096;
 ///
 /// `FilesFault` if the disk failed.
 pub(crate) fn write_again<F: StoreFiles>(files: &mut F) -> Result<(), FilesFault>
-    ensures { IsTrue F.honest → OnOk result (IsWrittenAgain (F.seen files.old) (F.seen files.new)) }
+    ensures works { IsTrue F.honest → OnErr result (IsTrue F.may_fail) }
+    ensures written { IsTrue F.honest → OnOk result (IsWrittenAgain (F.seen files.old) (F.seen files.new)) }
 {
     let size = files.len(Part::Store)?;
     let mut piece = [0; PIECE_SIZE];

@@ -1,6 +1,6 @@
 //! The files of a store: FILE, and FILE.journal beside it.
 
-ghost use Rattle.std.specs.Prelude.{◌≡◌, ◌+◌, ◌≤◌, ◌<◌, ℕ, Bool, IsTrue, IfOk, OnOk, length, slice_range};
+ghost use Rattle.std.specs.Prelude.{◌≡◌, ◌+◌, ◌≤◌, ◌<◌, ℕ, Bool, true, IsTrue, IfOk, OnOk, OnErr, length, slice_range};
 ghost use Rattle.fw_cuts.specs.Both.{Both, of, On};
 ghost use Rattle.fw_cuts.specs.Cuts.{
   Seen,
@@ -49,6 +49,9 @@ pub trait StoreFiles {
     /// Whether they keep what is said here.
     ghost honest: { Bool };
 
+    /// Whether a call may fail. If none may, an honest disk never refuses one.
+    ghost may_fail: { Bool } = { true };
+
     /// What is known of the files.
     ghost seen: { Self → Seen };
 
@@ -58,6 +61,7 @@ pub trait StoreFiles {
     ///
     /// `FilesFault` if the disk failed.
     fn len(&mut self, part: Part) -> Result<u64, FilesFault>
+        ensures works { IsTrue honest → OnErr result (IsTrue may_fail) }
         ensures done { IsTrue honest → IfOk result (λ len. len ≡ length (of part (seen self.old).held)) }
         ensures lost { IsTrue honest → LosesNoMore (seen self.old) (seen self.new) }
         ensures goes { IsTrue honest → Goes Stays (seen self.old) (seen self.new) };
@@ -68,6 +72,7 @@ pub trait StoreFiles {
     ///
     /// `FilesFault` if the disk failed. The file may have either length then.
     fn set_len(&mut self, part: Part, len: u64) -> Result<(), FilesFault>
+        ensures works { IsTrue honest → OnErr result (IsTrue may_fail) }
         ensures done { IsTrue honest
             → OnOk result (On part (Resizes len) (seen self.old).held (seen self.new).held) }
         ensures lost { IsTrue honest → LosesNoMore (seen self.old) (seen self.new) }
@@ -80,6 +85,7 @@ pub trait StoreFiles {
     /// `FilesFault` if the disk failed. `out` may then have any bytes.
     fn read_at(&mut self, part: Part, at: u64, out: &mut [u8]) -> Result<(), FilesFault>
         requires { IsTrue honest → at + length out.old ≤ length (of part (seen self.old).held) }
+        ensures works { IsTrue honest → OnErr result (IsTrue may_fail) }
         ensures done { IsTrue honest
             → OnOk result (out.new ≡ slice_range (of part (seen self.old).held) at (at + length out.old)) }
         ensures lost { IsTrue honest → LosesNoMore (seen self.old) (seen self.new) }
@@ -92,6 +98,7 @@ pub trait StoreFiles {
     /// `FilesFault` if the disk failed. Any sectors of the range may then have these bytes.
     fn write_at(&mut self, part: Part, at: u64, bytes: &[u8]) -> Result<(), FilesFault>
         requires { IsTrue honest → at + length bytes.now ≤ length (of part (seen self.old).held) }
+        ensures works { IsTrue honest → OnErr result (IsTrue may_fail) }
         ensures done { IsTrue honest
             → OnOk result (On part (Writes at bytes.now) (seen self.old).held (seen self.new).held) }
         ensures lost { IsTrue honest → LosesNoMore (seen self.old) (seen self.new) }
@@ -104,6 +111,7 @@ pub trait StoreFiles {
     ///
     /// `FilesFault` if the disk failed. Any bytes of the file that weren't on the disk may be lost then.
     fn sync(&mut self, part: Part) -> Result<(), FilesFault>
+        ensures works { IsTrue honest → OnErr result (IsTrue may_fail) }
         ensures done { IsTrue honest → NoneLost part (seen self.old) → OnOk result (IsSynced part (seen self.new)) }
         ensures lost { IsTrue honest → OnOk result (LosesNoMore (seen self.old) (seen self.new)) }
         ensures goes { IsTrue honest → Goes Stays (seen self.old) (seen self.new) };

@@ -1,20 +1,21 @@
 //! A header write, through its journal.
 
 ghost use Rattle.std.specs.Prelude.{◌≡◌, ◌+◌, ◌≤◌, ℕ, List, None, IsTrue, IfOk, OnOk, OnErr, length};
-ghost use Rattle.fw_undo.specs.Write.{IsWrite};
-ghost use Rattle.fw_undo.specs.Cut.{after_of};
-ghost use Rattle.fw_cuts.specs.Cuts.{Goes, Stays, LosesNoMore};
+ghost use Rattle.fw_cuts.specs.Write.{IsWrite};
+ghost use Rattle.fw_cuts.specs.Sectors.{after_of};
+ghost use Rattle.fw_cuts.specs.Cuts.{Goes, Stays, IsSynced, LosesNoMore};
 ghost use Rattle.fw_cuts.specs.Rest.{write_on, IsAtRest, IsOldOrNew, IsTakenBack};
+ghost use Rattle.fw_cuts.specs.declared.files.Part.TheVariants.{Store};
 
 use crate::files::{FilesFault, Part, StoreFiles};
 use crate::journal::put_journal;
 use crate::parts::write_parts;
 use crate::reading::{read_both, size_from};
 use crate::recovery::{put_back, settle};
-use fw_undo::{HeaderWrite, JournalBytes};
+use crate::undo::{HeaderWrite, JournalBytes};
 
 /// The most bytes of a header that stand before the slots.
-const FRONT_SIZE: usize = 614;
+pub const FRONT_SIZE: usize = 614;
 
 /// The most bytes of a header that stand after the slots.
 const LAST_SIZE: usize = 1544;
@@ -66,6 +67,8 @@ pub fn replace<F: StoreFiles>(
         ≡ after_of (write_on (F.seen files.old).held.store at bytes.now last_at last.now) (F.seen files.old).held.store) }
     ensures at_rest { IsTrue F.honest → (from to : ℕ) → IsAtRest from to (F.seen files.old) → at + length bytes.now ≤ from → to ≤ last_at
         → OnOk result (IsAtRest from to (F.seen files.new)) }
+    ensures synced { IsTrue F.honest → (from to : ℕ) → IsAtRest from to (F.seen files.old)
+        → OnOk result (IsSynced Store (F.seen files.new)) }
 
     // Whatever it answers, and whenever it is cut.
     ensures goes { IsTrue F.honest → (from to : ℕ) → IsAtRest from to (F.seen files.old)
@@ -73,10 +76,14 @@ pub fn replace<F: StoreFiles>(
         (F.seen files.old) (F.seen files.new) }
     ensures failed { IsTrue F.honest → (from to : ℕ) → IsAtRest from to (F.seen files.old) → scratch.old.failed ≡ None → OnErr result
         ((made : List ℕ) → IsTakenBack scratch.new.failed (F.seen files.new).held.store made → made ≡ (F.seen files.old).held.store) }
+
+    // A taking back makes something of any FILE.
+    ensures taken { scratch.old.failed ≡ None → (store : List ℕ) → OnErr result ((made : List ℕ) × IsTakenBack scratch.new.failed store made) }
+    ensures clear { OnOk result (scratch.new.failed ≡ scratch.old.failed) }
 {
-    fw_undo::laws::one_write();
-    fw_undo::laws::each_cut_is_mended();
-    fw_undo::laws::one_sector_is_whole();
+    crate::undo::laws::one_write();
+    crate::undo::laws::each_cut_is_mended();
+    crate::undo::laws::one_sector_is_whole();
     files.sync(Part::Store)?;
     let Scratch {
         room,

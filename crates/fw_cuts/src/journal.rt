@@ -1,15 +1,15 @@
 //! FILE.journal: read, and made ready for a header write.
 
-ghost use Rattle.std.specs.Prelude.{◌≡◌, [], IsTrue, IfOk, OnOk};
-ghost use Rattle.fw_undo.specs.Write.{IsWrite};
-ghost use Rattle.fw_undo.specs.Change.{IsChange};
+ghost use Rattle.std.specs.Prelude.{◌≡◌, ◌<◌, ◌≤◌, ◌⊎◌, [], IsTrue, IfOk, OnOk, OnErr, length};
+ghost use Rattle.fw_cuts.specs.Write.{IsWrite, max_journal};
+ghost use Rattle.fw_cuts.specs.Change.{IsChange};
 ghost use Rattle.fw_cuts.specs.Cuts.{Goes, Stays, IsSynced, NoneLost, LosesNoMore};
 ghost use Rattle.fw_cuts.specs.Rest.{IsReadyFor};
 ghost use Rattle.fw_cuts.specs.Private.{SameStore};
 ghost use Rattle.fw_cuts.specs.declared.files.Part.TheVariants.{Journal};
 
 use crate::files::{FilesFault, Part, StoreFiles};
-use fw_undo::{Change, HeaderWrite, MAX_JOURNAL_SIZE};
+use crate::undo::{Change, HeaderWrite, MAX_JOURNAL_SIZE};
 
 /// All bytes of FILE.journal.
 pub(crate) fn read_journal<'a, F: StoreFiles>(
@@ -17,6 +17,9 @@ pub(crate) fn read_journal<'a, F: StoreFiles>(
     out: &'a mut [u8; MAX_JOURNAL_SIZE],
 ) -> Result<&'a [u8], FilesFault>
     ensures bytes { IsTrue F.honest → IfOk result (λ bytes. bytes.now ≡ (F.seen files.old).held.journal) }
+    ensures few { IsTrue F.honest → OnOk result (length (F.seen files.old).held.journal ≤ max_journal) }
+    ensures refused { IsTrue F.honest
+        → OnErr result (IsTrue F.may_fail ⊎ (max_journal < length (F.seen files.old).held.journal)) }
     ensures goes { IsTrue F.honest → Goes Stays (F.seen files.old) (F.seen files.new) }
 {
     let len = files.len(Part::Journal)?;
@@ -67,6 +70,7 @@ fn replace_journal<F: StoreFiles>(files: &mut F, bytes: &[u8]) -> Result<(), Fil
 /// Takes all bytes from FILE.journal, and syncs that, also if it has none: an earlier call may have cut it and failed in its sync. No
 /// byte of it is lost then, whatever was.
 pub(crate) fn empty_journal<F: StoreFiles>(files: &mut F) -> Result<(), FilesFault>
+    ensures works { IsTrue F.honest → OnErr result (IsTrue F.may_fail) }
     ensures done { IsTrue F.honest → OnOk result ((F.seen files.new).held.journal ≡ []) }
     ensures synced { IsTrue F.honest → OnOk result (IsSynced Journal (F.seen files.new)) }
     ensures found { IsTrue F.honest → OnOk result (NoneLost Journal (F.seen files.new)) }

@@ -1,16 +1,16 @@
 //! The parts of a header, written to FILE.
 
-ghost use Rattle.std.specs.Prelude.{◌≡◌, ◌+◌, ◌≤◌, ◌<◌, ◌^◌, List, ℕ, IsTrue, OnOk, length};
-ghost use Rattle.fw_undo.specs.Write.{Write, IsWrite};
-ghost use Rattle.fw_undo.specs.Cut.{IsOn, replaced, after_of};
-ghost use Rattle.fw_undo.specs.Change.{IsChange};
+ghost use Rattle.std.specs.Prelude.{◌≡◌, ◌+◌, ◌≤◌, ◌<◌, ◌^◌, List, ℕ, IsTrue, OnOk, OnErr, length};
+ghost use Rattle.fw_cuts.specs.Write.{Write, IsWrite};
+ghost use Rattle.fw_cuts.specs.Sectors.{IsOn, replaced, after_of};
+ghost use Rattle.fw_cuts.specs.Change.{IsChange};
 ghost use Rattle.fw_cuts.specs.Both.{Both, On};
 ghost use Rattle.fw_cuts.specs.Cuts.{Goes, Resizes, MayResize, IsSynced, NoneLost, LosesNoMore};
 ghost use Rattle.fw_cuts.specs.Private.{SameJournal, Lays};
 ghost use Rattle.fw_cuts.specs.declared.files.Part.TheVariants.{Store};
 
 use crate::files::{FilesFault, Part, StoreFiles};
-use fw_undo::{Change, HeaderWrite};
+use crate::undo::{Change, HeaderWrite};
 
 /// Writes what a header write changes, and syncs it.
 pub(crate) fn write_parts<F: StoreFiles>(
@@ -74,6 +74,7 @@ pub(crate) fn write_both<F: StoreFiles>(
     requires order { at + length bytes.now ≤ last_at }
     requires fits { last_at + length last.now < 2 ^ 64 }
     requires begins { IsTrue F.honest → last_at ≤ length (F.seen files.old).held.store }
+    ensures works { IsTrue F.honest → OnErr result (IsTrue F.may_fail) }
     ensures done { IsTrue F.honest → OnOk result
         ((F.seen files.new).held.store ≡ replaced (F.seen files.old).held.store at bytes.now last_at last.now) }
     ensures lost { IsTrue F.honest → OnOk result (LosesNoMore (F.seen files.old) (F.seen files.new)) }
@@ -91,6 +92,7 @@ pub(crate) fn write_both<F: StoreFiles>(
 /// Cuts FILE to this length, or adds zeros up to it. If it is cut, that is synced, so that no byte written afterwards is found among
 /// those that are cut off.
 fn fit<F: StoreFiles>(files: &mut F, len: u64) -> Result<(), FilesFault>
+    ensures works { IsTrue F.honest → OnErr result (IsTrue F.may_fail) }
     ensures done { IsTrue F.honest
         → OnOk result (On Store (Resizes len) (F.seen files.old).held (F.seen files.new).held) }
     ensures short { IsTrue F.honest → NoneLost Store (F.seen files.old) → IsSynced Store (F.seen files.old)

@@ -1,8 +1,8 @@
 //! What an opening makes of the files that a power cut, or a failed sync, left.
 
-ghost use Rattle.std.specs.Prelude.{◌≡◌, ℕ, IsTrue, OnOk};
-ghost use Rattle.fw_undo.specs.Write.{IsWrite};
-ghost use Rattle.fw_undo.specs.Cut.{Mends};
+ghost use Rattle.std.specs.Prelude.{◌≡◌, ◌<◌, ◌≤◌, ◌⊎◌, ℕ, IsTrue, OnOk, OnErr, length};
+ghost use Rattle.fw_cuts.specs.Write.{IsWrite, max_journal};
+ghost use Rattle.fw_cuts.specs.Sectors.{Mends};
 ghost use Rattle.fw_cuts.specs.Rest.{IsRecovered, IsTakenBack, IsAtRest};
 
 use crate::again::write_again;
@@ -10,7 +10,7 @@ use crate::files::{FilesFault, Part, StoreFiles};
 use crate::journal::{empty_journal, read_journal};
 use crate::parts::write_both;
 use crate::reading::{read_both, size_from};
-use fw_undo::{HeaderWrite, JournalBytes, MAX_JOURNAL_SIZE, MAX_PART_SIZE};
+use crate::undo::{HeaderWrite, JournalBytes, MAX_JOURNAL_SIZE, MAX_PART_SIZE};
 
 /// What an opening does first. It puts right what a power cut left of a header write, by the journal: if each sector of the header is the
 /// one of before or the one of after, and some of after are missing, those of before are put back.
@@ -19,8 +19,13 @@ use fw_undo::{HeaderWrite, JournalBytes, MAX_JOURNAL_SIZE, MAX_PART_SIZE};
 ///
 /// `FilesFault` if the disk failed, or if FILE.journal has more bytes than a journal.
 pub fn recover<F: StoreFiles>(files: &mut F) -> Result<(), FilesFault>
-    ensures { IsTrue F.honest → OnOk result
+    ensures recovered { IsTrue F.honest → OnOk result
         (IsRecovered (F.seen files.old).held.journal (F.seen files.old).held.store (F.seen files.new).held.store) }
+
+    // Files of which no call fails are refused just if their journal is longer than any.
+    ensures few { IsTrue F.honest → OnOk result (length (F.seen files.old).held.journal ≤ max_journal) }
+    ensures refused { IsTrue F.honest
+        → OnErr result (IsTrue F.may_fail ⊎ (max_journal < length (F.seen files.old).held.journal)) }
 {
     let mut room = [0; MAX_JOURNAL_SIZE];
     let bytes = read_journal(files, &mut room)?;
@@ -37,6 +42,7 @@ pub fn recover<F: StoreFiles>(files: &mut F) -> Result<(), FilesFault>
 ///
 /// `FilesFault` if the disk failed. FILE is as it was, and it is still to be done before the next header write.
 pub fn settle<F: StoreFiles>(files: &mut F) -> Result<(), FilesFault>
+    ensures works { IsTrue F.honest → OnErr result (IsTrue F.may_fail) }
     ensures store { IsTrue F.honest → OnOk result ((F.seen files.new).held.store ≡ (F.seen files.old).held.store) }
     ensures at_rest { IsTrue F.honest → OnOk result ((from to : ℕ) → IsAtRest from to (F.seen files.new)) }
 {
@@ -47,7 +53,8 @@ pub fn settle<F: StoreFiles>(files: &mut F) -> Result<(), FilesFault>
 /// Puts back the bytes of before where a write was cut.
 fn mend<F: StoreFiles>(files: &mut F, write: &HeaderWrite<'_>) -> Result<(), FilesFault>
     requires { IsWrite write.now }
-    ensures { IsTrue F.honest
+    ensures works { IsTrue F.honest → OnErr result (IsTrue F.may_fail) }
+    ensures mended { IsTrue F.honest
         → OnOk result (Mends write.now (F.seen files.old).held.store (F.seen files.new).held.store) }
 {
     let Some(size) = size_from(files, write.last_at)? else {

@@ -5,7 +5,7 @@ use Rattle.std.specs.declared.net.socket_addr.SocketAddr.{SocketAddr}
 use Rattle.std.specs.Option.{option_map}
 use Rattle.std.specs.Prelude.{Option, Some, None}
 use Rattle.fw_wrapper.specs.Laws.{OneFrame}
-use Rattle.fw_wrapper.specs.Wrapper.{behind_header, wrapped}
+use Rattle.fw_wrapper.specs.Wrapper.{behind_header, wrapped, wport}
 use Rattle.fw_apdu.specs.Laws.{OneRequest}
 use Rattle.fw_apdu.specs.Request.{RequestContent, SpellsRequest, action_request, get_request, is_confirmed, set_request}
 use Rattle.fw_apdu.specs.Response.{ResponseContent, action_response, get_response, response_bytes, set_response, SpellsResponse}
@@ -159,7 +159,7 @@ stepped frames requests honest Faults old new datagram reply activated asked c (
     let spelled : SpellsRequest k.brings.apdu h.invoke h.content = subst (λ (s : List ℕ). SpellsRequest s h.invoke h.content) apdus h.brings.spells in
     let contents : h.content ≡ k.content = (requests k.brings.apdu h.invoke k.invoke h.content k.content spelled k.brings.spells).1 in
     let response : List ℕ = response_bytes h.invoke (response_of (outcome_in h.content result)) in
-    let sent : k.bytes ≡ wrapped 1 h.source response = written (is_confirmed h.invoke) k.bytes (wrapped 1 h.source response) (sym k.replied ∙ h.responds.replies) in
+    let sent : k.bytes ≡ wrapped wport h.source response = written (is_confirmed h.invoke) k.bytes (wrapped wport h.source response) (sym k.replied ∙ h.responds.replies) in
     let same : k.carries.apdu ≡ response = ap (λ (s : List ℕ). behind_header s) (sym k.carries.wraps.bytes ∙ sent) in
     let is : result ≡ coded c = in_response h.content result k.carries.apdu h.invoke k.carries.invoke c k.carries.response same k.carries.spells k.carries.coded in
     let asks : meaning_of h.content ≡ asked = ap (λ (r : RequestContent). meaning_of r) contents ∙ sym k.asks in

@@ -10,8 +10,9 @@ ghost use Rattle.fw_daemon.specs.declared.event.MeterEvent.{MeterEvent as Event}
 use crate::daemon::{Dropped, Heard, MeterDaemon};
 use crate::event::MeterEvent;
 use fw_meter::Handled;
-use fw_port::{Closed, MAX_RECEIVED, NoReport, Patience, Port};
+use fw_port::{Closed, NoReport, Patience, Port};
 use fw_store::ImageStore;
+use fw_wrapper::MAX_RECEIVED;
 use std::alloc::Global;
 use std::sync::Wait;
 

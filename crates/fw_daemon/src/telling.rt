@@ -32,11 +32,8 @@ use fw_meter::{Handled, MeterCore, OutOfMemory};
 use fw_names::{ImageName, is_risen};
 use fw_server::{Operation, Planned, plan};
 use fw_store::ImageStore;
-use fw_wrapper::split;
+use fw_wrapper::{WPORT, split};
 use std::alloc::Global;
-
-/// The wPort of the management process, which a meter serves.
-const METER_PORT: u16 = 1;
 
 /// The request that a datagram brings, if it carries one to the meter's wPort.
 pub(crate) fn request_in(alloc: Global, datagram: &[u8]) -> Result<Option<Request>, OutOfMemory>
@@ -47,7 +44,7 @@ pub(crate) fn request_in(alloc: Global, datagram: &[u8]) -> Result<Option<Reques
     let Ok(frame) = split(datagram) else {
         return Ok(None);
     };
-    if frame.dest != METER_PORT {
+    if frame.dest != WPORT {
         return Ok(None);
     }
     match read_request(alloc, frame.apdu) {

@@ -1,7 +1,7 @@
 //! Why a file wasn't opened, made or written.
 
 ghost use Rattle.std.specs.Prelude.{◌≡◌};
-ghost use Rattle.fw_disk.specs.Causes.{IsOfSystem};
+ghost use Rattle.fw_disk.specs.Causes.{IsOfSystem, cause_of};
 ghost use Rattle.fw_disk.specs.declared.cause.NamingError.TheVariants.{NotNamed};
 
 use std::alloc::AllocError;
@@ -39,8 +39,8 @@ pub enum Cause {
     Other { code: i32 },
 }
 
-/// Linux: the process has as many files open as it may, and the system has.
-const TOO_MANY_OPEN: [i32; 2] = [24, 23];
+/// The error numbers of Linux that say that a process, or the system, has as many files open as it may.
+pub const TOO_MANY_OPEN: [i32; 2] = [24, 23];
 
 impl fmt::Display for Cause {
     fn fmt<W: fmt::Write>(&self, f: &mut fmt::Formatter<W>) -> fmt::Result {
@@ -122,7 +122,9 @@ impl From<Cause> for NamingError {
 
 impl NamingError {
     /// The cause alone.
-    pub fn cause(&self) -> Cause {
+    pub fn cause(&self) -> Cause
+        ensures { result ≡ cause_of self.now }
+    {
         match self {
             NamingError::NotNamed(cause) | NamingError::NotSynced(cause) => *cause,
         }

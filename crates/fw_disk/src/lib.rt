@@ -17,7 +17,7 @@ mod reason;
 mod replacing;
 mod system;
 
-pub use cause::{Cause, NamingError};
+pub use cause::{Cause, NamingError, TOO_MANY_OPEN};
 pub use filling::{fill, reserve};
 pub use folder::Folder;
 pub use kind::{FRONT_SIZE, Kind};

@@ -1,7 +1,9 @@
 //! Where a file is, and those beside it.
 
-ghost use Rattle.std.specs.Prelude.{◌≤◌, IfErr};
+ghost use Rattle.std.specs.Prelude.{◌≡◌, ◌≤◌, ◌++◌, IfErr, IfOk, take};
 ghost use Rattle.fw_disk.specs.Causes.{IsOfSystem};
+ghost use Rattle.fw_disk.specs.Endings.{ending_of};
+ghost use Rattle.fw_disk.specs.declared.name.Name.TheVariants.{New, Journal};
 
 use crate::cause::Cause;
 use crate::name::Name;
@@ -18,6 +20,8 @@ pub struct Place<'a> {
     path: &'a str,
     new: Beside,
     journal: Beside,
+    ghost new_is: { take new.size new.bytes ≡ path.now ++ ending_of New },
+    ghost journal_is: { take journal.size journal.bytes ≡ path.now ++ ending_of Journal },
 }
 
 impl<'a> Place<'a> {
@@ -27,7 +31,8 @@ impl<'a> Place<'a> {
     ///
     /// `Other` with the system's number for a name that is too long.
     pub fn of(path: &'a str) -> Result<Place<'a>, Cause>
-        ensures { IfErr result IsOfSystem }
+        ensures path { IfOk result (λ place. place.path.now ≡ path.now) }
+        ensures faults { IfErr result IsOfSystem }
     {
         Ok(Place {
             path,
@@ -38,7 +43,8 @@ impl<'a> Place<'a> {
 
     /// The path of a name.
     pub fn path(&self, name: Name) -> Result<&str, Cause>
-        ensures { IfErr result IsOfSystem }
+        ensures path { IfOk result (λ path. path.now ≡ self.now.path.now ++ ending_of name) }
+        ensures faults { IfErr result IsOfSystem }
     {
         match name {
             Name::Main => Ok(self.path),
@@ -68,7 +74,8 @@ struct Beside {
 impl Beside {
     /// The path with the ending.
     fn of(path: &str, ending: &str) -> Result<Beside, Cause>
-        ensures { IfErr result IsOfSystem }
+        ensures path { IfOk result (λ beside. take beside.size beside.bytes ≡ path.now ++ ending.now) }
+        ensures faults { IfErr result IsOfSystem }
     {
         let (path, ending) = (path.as_bytes(), ending.as_bytes());
         let mut bytes = [0; MAX_PATH_SIZE];
@@ -83,7 +90,8 @@ impl Beside {
 
     /// The path as text.
     fn text(&self) -> Result<&str, Cause>
-        ensures { IfErr result IsOfSystem }
+        ensures path { IfOk result (λ path. path.now ≡ take self.now.size self.now.bytes) }
+        ensures faults { IfErr result IsOfSystem }
     {
         match str::from_utf8(&self.bytes[..self.size]) {
             Ok(text) => Ok(text),

@@ -12,13 +12,10 @@ use crate::error::DissectError;
 use crate::line::append_line;
 use crate::plain::{flush_plain, put_file_header, put_plain};
 use crate::taking::{packet_of, take, take_format};
-use fw_capture::{CaptureError, Format, Packet};
+use fw_capture::{CaptureError, FILE_HEADER_SIZE, Format, Packet};
 use fw_seal::Link;
 use std::alloc::Global;
 use std::io::{Read, Write};
-
-/// The bytes of a file header.
-const FILE_HEADER_SIZE: usize = 24;
 
 /// Tells the capture that a reader has. Each datagram has a line, with its number, from 0 on, the address and port that it came from and went
 /// to, and what it says. Each note has one too. Other packets are passed over. If times are asked for, a line begins with that of its record, as

@@ -6,7 +6,7 @@ use Rattle.fw_store.specs.Device.{Device}
 use Rattle.fw_store.specs.Fresh.{fresh_device}
 use Rattle.fw_store.specs.Known.{Known}
 use Rattle.fw_store.specs.Memory.{capacity_of, device_of, known_of}
-use Rattle.fw_store.specs.Setup.{IsCapacity, IsSetup}
+use Rattle.fw_store.specs.Setup.{IsSetup}
 use Rattle.fw_store.specs.StoreBytes.{device_at}
 use Rattle.fw_store.specs.declared.memory.MemoryStore.{MemoryStore}
 use Rattle.fw_store.specs.declared.version.HeaderVersion.{HeaderVersion}
@@ -36,9 +36,6 @@ holds bytes store state read held = record {
   means = means_bytes bytes store state.meter read (held.means refl);
   trusted = held.trusted refl;
 }
-
-pub has_room : (bytes : List ℕ) (store : MemoryStore) (state : State) → IsReadFrom bytes store → Holds (known_of store) state → IsCapacity state.meter.capacity
-has_room bytes store state read held = subst IsCapacity (sym held.size) read.is.room
 
 no_meter : (bytes : List ℕ) (store : MemoryStore) → IsReadFrom bytes store → ((meter : Meter) → ¬ IsMeterOf (capacity_of store) (device_of store) meter)
     → (meter : Meter) → ¬ IsMeterOf (capacity_of store) (device_at (capacity_of store) bytes) meter

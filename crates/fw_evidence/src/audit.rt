@@ -4,7 +4,6 @@ ghost use Rattle.std.specs.Prelude.{◌<◌, IfErr, IfOk, length};
 ghost use Rattle.fw_audit.specs.Log.{log_of};
 ghost use Rattle.fw_audit.specs.Stands.{IsMeterLog};
 ghost use Rattle.fw_image.specs.Meter.{reopened};
-ghost use Rattle.fw_store.specs.Setup.{IsCapacity};
 ghost use Rattle.fw_evidence.specs.Audits.{IsUnfit};
 ghost use Rattle.fw_evidence.specs.Captures.{IsLogOf};
 ghost use Rattle.fw_evidence.specs.Private.{DepartsIn, IsMarked, IsWithin};
@@ -42,7 +41,6 @@ pub fn audit_capture<'a>(
     capture: &'a [u8],
     end: &MeterCore<MemoryStore>,
 ) -> Result<Audited<'a>, EvidenceError>
-    requires { IsCapacity begin.meter.capacity }
     ensures log { IfOk result (λ found. IsLogOf site.entry capture.now (log_of found.log.items.items) found.log.marks.items) }
     ensures is { IfOk result (λ found. IsMeterLog site.entry.heads.now (reopened begin.meter) (log_of found.log.items.items) found.images.items
         end.now.meter) }

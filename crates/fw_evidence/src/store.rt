@@ -1,7 +1,7 @@
 //! Meters in the bytes of stores.
 
 ghost use Rattle.std.specs.Prelude.{◌≡◌, ◌≢◌, IfErr, IfOk, IsErrOf};
-ghost use Rattle.fw_store.specs.Setup.{IsCapacity, IsSetup};
+ghost use Rattle.fw_store.specs.Setup.{IsSetup};
 ghost use Rattle.fw_store.specs.declared.version.HeaderVersion.TheVariants.{Two};
 ghost use Rattle.fw_image.specs.Fresh.{fresh_meter};
 ghost use Rattle.fw_image.specs.Meter.{reopened};
@@ -30,7 +30,6 @@ pub fn meter_at_rest(
     ensures meter { IfOk result (λ meter. IsAtRest store.items undo.now meter.meter) }
 
     // As an audit begins with it.
-    ensures room { IfOk result (λ meter. IsCapacity meter.meter.capacity) }
     ensures rests { IfOk result (λ meter. reopened meter.meter ≡ meter.meter) }
     ensures refused { IfErr result (λ error. IsNoMeter store.items undo.now error) }
 {
@@ -45,7 +44,6 @@ pub fn meter_at_rest(
 /// The meter in the bytes of a store in which nothing is half done.
 fn meter_in(alloc: Global, bytes: &[u8]) -> Result<MeterCore<MemoryStore>, StoreRefusal>
     ensures meter { IfOk result (λ meter. HoldsMeter bytes.now meter.meter) }
-    ensures room { IfOk result (λ meter. IsCapacity meter.meter.capacity) }
     ensures rests { IfOk result (λ meter. reopened meter.meter ≡ meter.meter) }
     ensures refused { IfErr result (λ error. HoldsNone bytes.now error) }
 {
@@ -85,7 +83,6 @@ pub fn new_meter(
     factory: &[u8],
 ) -> Result<MeterCore<MemoryStore>, SetupError>
     ensures new { IfOk result (λ meter. meter.meter ≡ fresh_meter Two block_size capacity factory.now) }
-    ensures room { IfOk result (λ meter. IsCapacity meter.meter.capacity) }
     ensures bad_setup { IsErrOf result SetupError.BadSetup → ¬ IsSetup Two block_size capacity factory.now }
     ensures memory { IsErrOf result SetupError.OutOfMemory → IsSetup Two block_size capacity factory.now }
 {

@@ -5,6 +5,8 @@ use Rattle.std.proofs.lemmas.Bool.Decides.{nat_tests}
 use Rattle.std.specs.Ordering.{nat_cmp, eq_by_cmp}
 use Rattle.std.specs.Cmp.{nat_cmp_total}
 use Rattle.std.specs.FinMap.{empty, get, get-insert, get-empty}
+use Rattle.fw_blocks.specs.Width.{max_width}
+use Rattle.fw_apdu.specs.Request.{invoke_ids}
 use Rattle.fw_client.specs.State.{State, Asks, asking}
 use Rattle.fw_client.specs.declared.ask.Asked.{Asked}
 use Rattle.fw_head.specs.Private.{AskedLately}
@@ -21,7 +23,7 @@ none_lately c n h id some =
     let Q : Option Asked → Type 0 = λ o. IsSome o in
     absurd (false≢true (subst Q (get-empty nat_cmp id) in_empty))
 
-pub next_free : (c : State) (n : ℕ) → n ≤ 15 → AskedLately c n → get c.asks c.next ≡ None
+pub next_free : (c : State) (n : ℕ) → n ≤ max_width → AskedLately c n → get c.asks c.next ≡ None
 next_free c n few lately = nothing (get c.asks c.next) (λ some.
     let x = lately c.next some in
     omega (arith, x.1, x.2, x.3))
@@ -36,7 +38,7 @@ same_id : (k n : ℕ) → (k == n) ≡ true → k ≡ n
 same_id k n h = grind (arith, nat_tests)
 
 -- an id is the new ask's, or was outstanding before
-lately_by : (c : State) (asked : Asked) (n id : ℕ) (b : Bool) → (id == c.next) ≡ b → AskedLately c n → IsSome (cond b (Some asked) (get c.asks id)) → (back : ℕ) × (1 ≤ back) × (back ≤ n + 1) × ((id + back) % 16 ≡ ((c.next + 1) % 16) % 16)
+lately_by : (c : State) (asked : Asked) (n id : ℕ) (b : Bool) → (id == c.next) ≡ b → AskedLately c n → IsSome (cond b (Some asked) (get c.asks id)) → (back : ℕ) × (1 ≤ back) × (back ≤ n + 1) × ((id + back) % invoke_ids ≡ ((c.next + 1) % invoke_ids) % invoke_ids)
 lately_by c asked n id true h lately some =
     let same = same_id id c.next h in
     (1, omega arith, omega arith, omega (arith, same))

@@ -3,8 +3,9 @@ use Rattle.std.proofs.Common.{◌≡◌, ℕ, ◌+◌, ◌-◌, ◌<◌, ◌≤�
 use Rattle.std.proofs.lemmas.List.{map-append}
 use Rattle.std.proofs.lemmas.Grind.{common_steps}
 use Rattle.std.specs.Global.{Vec}
-use Rattle.fw_apdu.specs.Request.{request_bytes}
-use Rattle.fw_wrapper.specs.Wrapper.{wrapped}
+use Rattle.fw_blocks.specs.Width.{max_width}
+use Rattle.fw_apdu.specs.Request.{invoke_ids, request_bytes}
+use Rattle.fw_wrapper.specs.Wrapper.{wrapped, wport}
 use Rattle.fw_client.specs.Ask.{Ask, request_of, kind_of, CarriesRequest}
 use Rattle.fw_client.specs.State.{State, asking, invoke_byte}
 use Rattle.fw_head.specs.Row.{bytes_of, datagrams, asking_all}
@@ -12,13 +13,13 @@ use Rattle.fw_head.specs.Private.{AskedLately, Carry}
 use Rattle.fw_head.proofs.FreeIds.{one_later}
 
 -- what was sent grows by the datagram of the next ask
-sent_next : (f : ℕ → Ask) (before : List (Vec ℕ)) (d : Vec ℕ) (c : State) (number : ℕ) (others : List ℕ) → d.items ≡ wrapped 1 1 (request_bytes (invoke_byte c.next) (request_of (f number))) → bytes_of (before ++ d ∷ []) ++ datagrams (asking c (kind_of (f number))) (map f others) ≡ bytes_of before ++ datagrams c (map f (number ∷ others))
+sent_next : (f : ℕ → Ask) (before : List (Vec ℕ)) (d : Vec ℕ) (c : State) (number : ℕ) (others : List ℕ) → d.items ≡ wrapped wport wport (request_bytes (invoke_byte c.next) (request_of (f number))) → bytes_of (before ++ d ∷ []) ++ datagrams (asking c (kind_of (f number))) (map f others) ≡ bytes_of before ++ datagrams c (map f (number ∷ others))
 sent_next f before d c number others h =
     ap (λ (l : List (List ℕ)). l ++ datagrams (asking c (kind_of (f number))) (map f others)) (map-append (λ (datagram : Vec ℕ). datagram.items) before (d ∷ []))
     ∙ append_assoc (bytes_of before) (d.items ∷ []) (datagrams (asking c (kind_of (f number))) (map f others))
     ∙ ap (λ (x : List ℕ). bytes_of before ++ (x ∷ datagrams (asking c (kind_of (f number))) (map f others))) h
 
-pub sent_more : (f : ℕ → Ask) (before after : List (Vec ℕ)) (d : Vec ℕ) (c new : State) (rest : List ℕ) (number : ℕ) (others : List ℕ) (whole : List (List ℕ)) → bytes_of before ++ datagrams c (map f rest) ≡ whole → rest ≡ number ∷ others → d.items ≡ wrapped 1 1 (request_bytes (invoke_byte c.next) (request_of (f number))) → after ≡ before ++ d ∷ [] → new ≡ asking c (kind_of (f number)) → bytes_of after ++ datagrams new (map f others) ≡ whole
+pub sent_more : (f : ℕ → Ask) (before after : List (Vec ℕ)) (d : Vec ℕ) (c new : State) (rest : List ℕ) (number : ℕ) (others : List ℕ) (whole : List (List ℕ)) → bytes_of before ++ datagrams c (map f rest) ≡ whole → rest ≡ number ∷ others → d.items ≡ wrapped wport wport (request_bytes (invoke_byte c.next) (request_of (f number))) → after ≡ before ++ d ∷ [] → new ≡ asking c (kind_of (f number)) → bytes_of after ++ datagrams new (map f others) ≡ whole
 sent_more f before after d c new rest number others whole so_far next written pushed asked =
     ap (λ (l : List (Vec ℕ)). bytes_of l ++ datagrams new (map f others)) pushed
     ∙ ap (λ (s : State). bytes_of (before ++ d ∷ []) ++ datagrams s (map f others)) asked
@@ -35,20 +36,20 @@ asked_more f c new whole rest number others so_far next asked =
 shorter : (rest others : List ℕ) (number : ℕ) → rest ≡ number ∷ others → length rest ≡ 1 + length others
 shorter rest others number next = grind (arith, common_steps)
 
-pub lately_more : (f : ℕ → Ask) (c new : State) (rest : List ℕ) (number : ℕ) (others : List ℕ) → AskedLately c (15 - length rest) → length rest ≤ 15 → rest ≡ number ∷ others → new ≡ asking c (kind_of (f number)) → AskedLately new (15 - length others)
+pub lately_more : (f : ℕ → Ask) (c new : State) (rest : List ℕ) (number : ℕ) (others : List ℕ) → AskedLately c (max_width - length rest) → length rest ≤ max_width → rest ≡ number ∷ others → new ≡ asking c (kind_of (f number)) → AskedLately new (max_width - length others)
 lately_more f c new rest number others lately few next asked =
     let one : length rest ≡ 1 + length others = shorter rest others number next in
-    let same : (15 - length rest) + 1 ≡ 15 - length others = omega (arith, one, few) in
+    let same : (max_width - length rest) + 1 ≡ max_width - length others = omega (arith, one, few) in
     let P : ℕ → Type 0 = λ n. AskedLately new n in
-    let Q : State → Type 0 = λ s. AskedLately s ((15 - length rest) + 1) in
-    subst P same (subst Q (sym asked) (one_later c (kind_of (f number)) (15 - length rest) lately))
+    let Q : State → Type 0 = λ s. AskedLately s ((max_width - length rest) + 1) in
+    subst P same (subst Q (sym asked) (one_later c (kind_of (f number)) (max_width - length rest) lately))
 
-pub fewer : (rest others : List ℕ) (number : ℕ) → length rest ≤ 15 → rest ≡ number ∷ others → length others ≤ 15
+pub fewer : (rest others : List ℕ) (number : ℕ) → length rest ≤ max_width → rest ≡ number ∷ others → length others ≤ max_width
 fewer rest others number few next =
     let one : length rest ≡ 1 + length others = shorter rest others number next in
     omega (arith, one, few)
 
-pub no_more : (before after : List (Vec ℕ)) (d : Vec ℕ) (rest others : List ℕ) (number : ℕ) → length before + length rest ≤ 15 → rest ≡ number ∷ others → after ≡ before ++ d ∷ [] → length after + length others ≤ 15
+pub no_more : (before after : List (Vec ℕ)) (d : Vec ℕ) (rest others : List ℕ) (number : ℕ) → length before + length rest ≤ max_width → rest ≡ number ∷ others → after ≡ before ++ d ∷ [] → length after + length others ≤ max_width
 no_more before after d rest others number few next pushed =
     let one : length rest ≡ 1 + length others = shorter rest others number next in
     let more : length after ≡ length before + 1 = grind (arith, common_steps, pushed) in
@@ -57,7 +58,7 @@ no_more before after d rest others number few next pushed =
 -- and so does what carries the asks
 pub carry_more : (f : ℕ → Ask) (before after : List (Vec ℕ)) (d : Vec ℕ) (c new whole : State) (numbers rest : List ℕ) (number : ℕ) (others : List ℕ)
     → ((later : List (List ℕ)) → Carry c (map f rest) later → Carry whole (map f numbers) (bytes_of before ++ later))
-    → rest ≡ number ∷ others → c.next < 16 → CarriesRequest d.items (invoke_byte c.next) (request_of (f number)) → after ≡ before ++ d ∷ [] → new ≡ asking c (kind_of (f number))
+    → rest ≡ number ∷ others → c.next < invoke_ids → CarriesRequest d.items (invoke_byte c.next) (request_of (f number)) → after ≡ before ++ d ∷ [] → new ≡ asking c (kind_of (f number))
     → (later : List (List ℕ)) → Carry new (map f others) later → Carry whole (map f numbers) (bytes_of after ++ later)
 carry_more f before after d c new whole numbers rest number others so_far next fits carries pushed asked later carry =
     let S : State → Type 0 = λ s. Carry s (map f others) later in

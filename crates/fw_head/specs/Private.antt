@@ -4,6 +4,7 @@ use Rattle.std.specs.List.{list_any, list_all}
 use Rattle.std.specs.Option.{option_map_or}
 use Rattle.std.specs.FinMap.{get}
 use Rattle.fw_names.specs.Name.{Name, Campaign, name_of}
+use Rattle.fw_apdu.specs.Request.{invoke_ids}
 use Rattle.fw_blocks.specs.Cuts.{Partition, IsWithinLimits}
 use Rattle.fw_client.specs.Claim.{Claim}
 use Rattle.fw_client.specs.Ask.{Ask, request_of, kind_of, CarriesRequest}
@@ -85,13 +86,13 @@ pub record IsRow (name : Name) (size : ℕ) (stage : Stage) (client : State) (re
 
 -- each outstanding ask is one of the last `n`
 abbrev pub AskedLately : State → ℕ → Type 0
-AskedLately c n = (id : ℕ) → IsSome (get c.asks id) → (back : ℕ) × (1 ≤ back) × (back ≤ n) × ((id + back) % 16 ≡ c.next % 16)
+AskedLately c n = (id : ℕ) → IsSome (get c.asks id) → (back : ℕ) × (1 ≤ back) × (back ≤ n) × ((id + back) % invoke_ids ≡ c.next % invoke_ids)
 
 -- the datagrams carry these asks of a client, one each, under one id after the other
 abbrev pub Carry : State → List Ask → List (List ℕ) → Type 0
 Carry c [] [] = Unit {0}
 Carry c (asked ∷ asks) (datagram ∷ datagrams) =
-    (c.next < 16) × CarriesRequest datagram (invoke_byte c.next) (request_of asked) × Carry (asking c (kind_of asked)) asks datagrams
+    (c.next < invoke_ids) × CarriesRequest datagram (invoke_byte c.next) (request_of asked) × Carry (asking c (kind_of asked)) asks datagrams
 Carry c asks datagrams = ⊥
 
 -- ---- whether rows are the live ones of a book

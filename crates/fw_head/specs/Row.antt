@@ -4,8 +4,8 @@ use Rattle.std.specs.Global.{Vec}
 use Rattle.fw_names.specs.Name.{Name}
 use Rattle.fw_blocks.specs.Cuts.{Partition, IsWithinLimits, block_count, cut}
 use Rattle.fw_blocks.specs.Members.{first_missing}
-use Rattle.fw_wrapper.specs.Wrapper.{wrapped}
-use Rattle.fw_apdu.specs.Request.{request_bytes}
+use Rattle.fw_wrapper.specs.Wrapper.{wrapped, wport}
+use Rattle.fw_apdu.specs.Request.{invoke_ids, request_bytes}
 use Rattle.fw_client.specs.Claim.{Claim}
 use Rattle.fw_client.specs.Ask.{Ask, initiate, block, request_of, kind_of, CarriesRequest}
 use Rattle.fw_client.specs.State.{State, fresh, asking, forgetting, invoke_byte}
@@ -101,7 +101,7 @@ known_of row = if row.asks_first then 0 else known_in row.stage
 -- the datagrams of these asks, each under the next id
 abbrev pub datagrams : State → List Ask → List (List ℕ)
 datagrams c [] = []
-datagrams c (ask ∷ asks) = wrapped 1 1 (request_bytes (invoke_byte c.next) (request_of ask)) ∷ datagrams (asking c (kind_of ask)) asks
+datagrams c (ask ∷ asks) = wrapped wport wport (request_bytes (invoke_byte c.next) (request_of ask)) ∷ datagrams (asking c (kind_of ask)) asks
 
 -- the client once it asked them
 abbrev pub asking_all : State → List Ask → State
@@ -143,7 +143,7 @@ MaySend name image asked = Unit {0}
 pub record IsPermitted (name : Name) (image datagram : List ℕ) : Type 0 where
   pub asked : Ask
   pub id : ℕ
-  pub is_id : id < 16
+  pub is_id : id < invoke_ids
   pub may : MaySend name image asked
   pub carries : CarriesRequest datagram (invoke_byte id) (request_of asked)
 

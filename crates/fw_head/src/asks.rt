@@ -2,9 +2,10 @@
 
 ghost use Rattle.std.specs.Prelude.{◌≡◌, ◌<◌, ◌≤◌, [], ◌∷◌, map, length, None, IfOk, OnOk};
 ghost use Rattle.std.specs.FinMap.{empty, get};
-ghost use Rattle.fw_apdu.specs.Request.{request_bytes};
-ghost use Rattle.fw_wrapper.specs.Wrapper.{wrapped};
-ghost use Rattle.fw_blocks.specs.Cuts.{cut};
+ghost use Rattle.fw_blocks.specs.Width.{max_width};
+ghost use Rattle.fw_apdu.specs.Request.{invoke_ids, request_bytes};
+ghost use Rattle.fw_wrapper.specs.Wrapper.{wrapped, wport};
+ghost use Rattle.fw_blocks.specs.Cuts.{cut, max_block_size};
 ghost use Rattle.fw_client.specs.Ask.{Fits, request_of, kind_of, CarriesRequest};
 ghost use Rattle.fw_client.specs.State.{asking, invoke_byte};
 ghost use Rattle.fw_client.specs.View.{ask_of};
@@ -26,7 +27,7 @@ pub(crate) fn ask_one(
     requires fits { Fits (ask_of ask.now) }
     ensures sent { IfOk result (λ sent. bytes_of sent.items ≡ datagrams client.old (ask_of ask.now ∷ [])) }
     ensures carry { IfOk result (λ sent. Carry client.old (ask_of ask.now ∷ []) (bytes_of sent.items)) }
-    ensures most { IfOk result (λ sent. length sent.items ≤ 15) }
+    ensures most { IfOk result (λ sent. length sent.items ≤ max_width) }
     ensures asked { OnOk result (client.new ≡ asking_all client.old (ask_of ask.now ∷ [])) }
 {
     let datagram = datagram(alloc, client, ask)?;
@@ -45,7 +46,7 @@ pub(crate) fn ask_two(
     requires second_fits { Fits (ask_of second.now) }
     ensures sent { IfOk result (λ sent. bytes_of sent.items ≡ datagrams client.old (ask_of first.now ∷ ask_of second.now ∷ [])) }
     ensures carry { IfOk result (λ sent. Carry client.old (ask_of first.now ∷ ask_of second.now ∷ []) (bytes_of sent.items)) }
-    ensures most { IfOk result (λ sent. length sent.items ≤ 15) }
+    ensures most { IfOk result (λ sent. length sent.items ≤ max_width) }
     ensures asked { OnOk result (client.new ≡ asking_all client.old (ask_of first.now ∷ ask_of second.now ∷ [])) }
 {
     let former = datagram(alloc, client, first)?;
@@ -62,10 +63,10 @@ pub(crate) fn ask_blocks(
     numbers: &[u32],
 ) -> Result<Vec<Vec<u8>>, OutOfMemory>
     requires idle { client.old.asks ≡ empty }
-    requires most { length numbers.now ≤ 15 }
+    requires most { length numbers.now ≤ max_width }
     ensures sent { IfOk result (λ sent. bytes_of sent.items ≡ datagrams client.old (map (block_ask image.now geometry) numbers.now)) }
     ensures carry { IfOk result (λ sent. Carry client.old (map (block_ask image.now geometry) numbers.now) (bytes_of sent.items)) }
-    ensures most { IfOk result (λ sent. length sent.items ≤ 15) }
+    ensures most { IfOk result (λ sent. length sent.items ≤ max_width) }
     ensures asked { OnOk result (client.new ≡ asking_all client.old (map (block_ask image.now geometry) numbers.now)) }
 {
     let mut sent = Vec::with_capacity(alloc, numbers.len())?;
@@ -87,10 +88,10 @@ fn datagram(alloc: Global, client: &mut Client, ask: &Ask<'_>) -> Result<Vec<u8>
     requires free { get client.old.asks client.old.next ≡ None }
     requires fits { Fits (ask_of ask.now) }
     ensures written { IfOk result (λ datagram. datagram.items
-        ≡ wrapped 1 1 (request_bytes (invoke_byte client.old.next) (request_of (ask_of ask.now)))) }
+        ≡ wrapped wport wport (request_bytes (invoke_byte client.old.next) (request_of (ask_of ask.now)))) }
     ensures carries { IfOk result (λ datagram.
         CarriesRequest datagram.items (invoke_byte client.old.next) (request_of (ask_of ask.now))) }
-    ensures id { client.old.next < 16 }
+    ensures id { client.old.next < invoke_ids }
     ensures asked { OnOk result (client.new ≡ asking client.old (kind_of (ask_of ask.now))) }
 {
     match client.ask(alloc, ask) {
@@ -103,7 +104,7 @@ fn datagram(alloc: Global, client: &mut Client, ask: &Ask<'_>) -> Result<Vec<u8>
 /// The bytes of a block of the image, none if there is no such block.
 fn block(image: &[u8], geometry: Geometry, number: u32) -> &[u8]
     ensures cut { result.now ≡ cut geometry.block_size image.now number }
-    ensures fits { length result.now ≤ 1024 }
+    ensures fits { length result.now ≤ max_block_size }
 {
     match geometry.cut(image, number) {
         Some(bytes) => bytes,

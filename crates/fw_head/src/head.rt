@@ -4,7 +4,7 @@ ghost use Rattle.std.specs.Prelude.{◌≡◌, ◌≤◌, ◌↔◌, ℕ, true, 
 ghost use Rattle.std.specs.Map.{values_of};
 ghost use Rattle.std.specs.Option.{option_copied};
 ghost use Rattle.fw_names.specs.Name.{Campaign, name_of};
-ghost use Rattle.fw_blocks.specs.Width.{IsWidth};
+ghost use Rattle.fw_blocks.specs.Width.{IsWidth, max_width};
 ghost use Rattle.fw_book.specs.Contents.{IsBook};
 ghost use Rattle.fw_book.specs.Changes.{opening_refusal, cancel_refusal, IsRefusal};
 
@@ -311,7 +311,7 @@ impl HeadCore {
         ensures sent { IfOk result (λ sent. bytes_of sent.items ≡ sends_to self.old meter) }
         // Each is one that a head end of this book may send.
         ensures permitted { IfOk result (λ sent. All (IsOfferedIn self.old.book) (bytes_of sent.items)) }
-        ensures most { IfOk result (λ sent. length sent.items ≤ 15) }
+        ensures most { IfOk result (λ sent. length sent.items ≤ max_width) }
         ensures ticked { OnOk result (self.new ≡ ticked_head self.old meter) }
         ensures same { OnErr result (self.new ≡ self.old) }
         ensures memory { OnErr result (IsSomeAnd (row_of self.old.rows meter) (λ row. IsLive row.stage)) }

@@ -2,6 +2,7 @@
 
 ghost use Rattle.std.specs.Prelude.{◌≡◌, ◌<◌, ◌≤◌, true, false, All, length, IfSome, IfOk, OnOk, OnErr, MatchBool};
 ghost use Rattle.std.specs.FinMap.{empty};
+ghost use Rattle.fw_blocks.specs.Width.{max_width};
 ghost use Rattle.fw_client.specs.State.{IsWaiting};
 
 use crate::answers::{Step, next_step};
@@ -232,7 +233,7 @@ impl RowCore {
         // If the image has the row's size, each datagram is one that a head end may send.
         ensures permitted { IfOk result (λ sent. length image.now ≡ self.old.size
             → All (IsPermitted self.old.name image.now) (bytes_of sent.items)) }
-        ensures most { IfOk result (λ sent. length sent.items ≤ 15) }
+        ensures most { IfOk result (λ sent. length sent.items ≤ max_width) }
         ensures ticked { OnOk result (self.new ≡ ticked self.old image.now width) }
         ensures same { OnErr result (self.new ≡ self.old) }
         ensures memory { OnErr result (IsLive self.old.stage) }
@@ -255,7 +256,7 @@ impl RowCore {
         requires { client.old.asks ≡ empty }
         ensures sent { IfOk result (λ sent. bytes_of sent.items ≡ datagrams client.old (tick_asks self.now image.now width)) }
         ensures carry { IfOk result (λ sent. Carry client.old (tick_asks self.now image.now width) (bytes_of sent.items)) }
-        ensures most { IfOk result (λ sent. length sent.items ≤ 15) }
+        ensures most { IfOk result (λ sent. length sent.items ≤ max_width) }
         ensures asked { OnOk result (client.new ≡ asking_all client.old (tick_asks self.now image.now width)) }
         ensures memory { OnErr result (IsLive self.now.stage) }
     {

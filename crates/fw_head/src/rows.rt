@@ -6,6 +6,7 @@ ghost use Rattle.std.specs.List.{IsDistinct, AllByRecursion};
 ghost use Rattle.std.specs.Map.{keys_of, values_of};
 ghost use Rattle.indexmap.specs.IndexMap.{spare};
 ghost use Rattle.std.specs.Option.{option_copied, option_map_or};
+ghost use Rattle.fw_blocks.specs.Width.{max_width};
 ghost use Rattle.fw_head.specs.Phase.{IsLive, has_ended};
 ghost use Rattle.fw_head.specs.Row.{Row, bytes_of, new_row, sends, ticked, IsPermitted};
 ghost use Rattle.fw_head.specs.Private.{IsOwnNews, IsOfBook, is_row_in, has_rows, has_each, live_meters, live_rows};
@@ -250,7 +251,7 @@ impl Rows {
             ≡ option_map_or (λ row. sends row image.now width) (row_of self.old.rows.entries meter) []) }
         ensures permitted { IfOk result (λ sent. (row : Row) → row_of self.old.rows.entries meter ≡ Some row
             → length image.now ≡ row.size → All (IsPermitted row.name image.now) (bytes_of sent.items)) }
-        ensures most { IfOk result (λ sent. length sent.items ≤ 15) }
+        ensures most { IfOk result (λ sent. length sent.items ≤ max_width) }
         ensures ticked { OnOk result (self.new.rows.entries ≡ at_meter meter (λ row. ticked row image.now width) self.old.rows.entries) }
         ensures same { OnErr result (self.new.rows.entries ≡ self.old.rows.entries) }
         ensures memory { OnErr result (IsSomeAnd (row_of self.old.rows.entries meter) (λ row. IsLive row.stage)) }

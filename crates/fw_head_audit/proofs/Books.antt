@@ -9,7 +9,8 @@ use Rattle.std.proofs.lemmas.Bool.Decides.{Decides-eqb}
 use Rattle.std.proofs.lemmas.List.Elements.{All-contains, All-from_recursion, All-nil, All-push}
 use Rattle.std.proofs.lemmas.Map.Views.{Contains-from_lookup}
 use Rattle.fw_names.specs.Name.{Campaign, IsOpened, IsRelease, factory}
-use Rattle.fw_book.specs.Contents.{AllApart, Apart, Contents, IsBook, IsEntry, Offered, max_image, offered_in, state_in}
+use Rattle.fw_blocks.specs.Cuts.{max_image}
+use Rattle.fw_book.specs.Contents.{AllApart, Apart, Contents, IsBook, IsEntry, Offered, offered_in, state_in}
 use Rattle.fw_book.specs.Rows.{state_of}
 use Rattle.fw_book.specs.declared.row.RowState.{RowState}
 use Rattle.fw_fleet_audit.specs.Rows.{campaign_of}

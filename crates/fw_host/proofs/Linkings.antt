@@ -14,17 +14,13 @@ use Rattle.std.proofs.lemmas.List.Elements.{All-nil, All-push, Contains-append_l
 use Rattle.fw_seal.specs.Sealing.{Ends}
 use Rattle.fw_keys.specs.declared.entry.Entry.{Entry}
 use Rattle.fw_keys.specs.Links.{Links as KeyLinks, HasNoEnd, ends_of}
-use Rattle.fw_keys.specs.declared.error.BadLine.{BadLine}
-use Rattle.fw_key_files.specs.declared.error.KeyFileError.{KeyFileError}
-use Rattle.fw_key_files.specs.declared.error.KeyFileError.TheVariants as key_file
-use Rattle.fw_faults.specs.declared.fault.Fault.TheVariants.{BadKeys, NoKey}
 use Rattle.fw_rollout.proofs.Placing.{equal_sockets, exact_socket}
 use Rattle.fw_rollout.specs.declared.link.Listed.{Listed}
 use Rattle.fw_sealport.specs.Peers.{Adds, peer_at}
 use Rattle.fw_sealport.specs.declared.links.Links.{Links}
 use Rattle.fw_sealport.specs.declared.peer.Peer.{Peer}
 use Rattle.fw_sealport.specs.declared.window.Order.{Order}
-use Rattle.fw_host.specs.Sealings.{AreLinksOf, HasLink, IsFirstWithout, IsListedAt, IsMapped, IsNamed, IsPeerOf, Shows, fault_of_key_file}
+use Rattle.fw_host.specs.Sealings.{AreLinksOf, HasLink, IsFirstWithout, IsListedAt, IsMapped, IsNamed, IsPeerOf, Shows}
 
 -- what is said of an address, where these ends have one
 abbrev At : {N : Type 0} → KeyLinks N → (N → SocketAddr → Type 0) → SocketAddr → Option Peer → Type 0
@@ -164,19 +160,3 @@ module _ (own : SocketAddr) (file : KeyLinks SocketAddr) (i : ℕ) (entry : Entr
         | inr same ↦ inr (one_shown own entry.end at address shows
             (subst (λ e. Shows own e address) (sym has.1.2 ∙ sym (ap (λ (e : Entry SocketAddr). e.end) same)) has.0))
       ])
-
--- ---- the faults of a key file
-
-pub bad_line : (e : KeyFileError) (line : ℕ) (why : BadLine) → fault_of_key_file e ≡ BadKeys line why → e ≡ key_file.BadKeys line why
-bad_line key_file.KeysFault line why is = absurd (cc is)
-bad_line key_file.KeysReadable line why is = absurd (cc is)
-bad_line (key_file.BadKeys l w) line why is = cc
-bad_line key_file.NoRandomness line why is = absurd (cc is)
-bad_line key_file.OutOfMemory line why is = absurd (cc is)
-
-pub no_meter : (e : KeyFileError) (meter : ℕ) → ¬ (fault_of_key_file e ≡ NoKey meter)
-no_meter key_file.KeysFault meter is = absurd (cc is)
-no_meter key_file.KeysReadable meter is = absurd (cc is)
-no_meter (key_file.BadKeys l w) meter is = absurd (cc is)
-no_meter key_file.NoRandomness meter is = absurd (cc is)
-no_meter key_file.OutOfMemory meter is = absurd (cc is)

@@ -1,6 +1,7 @@
 -- Public vocabulary: the captures of daemons: what they get of a datagram, and the faults that end one.
 use Rattle.std.specs.Prelude.{◌≡◌, ◌⊎◌, ℕ, Bool, true, false, MatchBool, nat_lt, List, [], ◌∷◌, length, map, take, Option, Some, None, Err, if◌then◌else◌}
 use Rattle.fw_capture.specs.Spelling.{file_header, packet_bytes}
+use Rattle.std.specs.HashSet.{HashSet}
 use Rattle.std.specs.Net.Socket.{socket_port}
 use Rattle.std.specs.declared.net.socket_addr.SocketAddr.{SocketAddr}
 use Rattle.fw_capture.specs.declared.fault.CaptureFault.{CaptureFault}
@@ -92,6 +93,16 @@ stranger_told false has_turns at patience from bytes = turn_told has_turns at pa
 
 abbrev pub stranger_count : Strangers → ℕ
 stranger_count s = if s.are_recorded then s.count else one_more s.count
+
+-- what is recorded where nothing is let through of what came: the turn, unless it is recorded behind a stranger's datagram
+abbrev pub dropped_told : Bool → Bool → SocketAddr → Patience → List Told
+dropped_told true has_turns at patience = []
+dropped_told false has_turns at patience = turn_told has_turns at patience
+
+-- whether a stranger's datagram came
+abbrev pub is_of_stranger : {S : Type 0} → Option (HashSet SocketAddr S) → Option Arrival → Bool
+is_of_stranger {S} known None = false
+is_of_stranger {S} known (Some a) = is_stranger known a.from
 
 -- What is recorded of what came: the datagram; a stranger's, where those are recorded; and the turn that a meter takes then which verifies.
 abbrev pub CapturesArrival : {S : Type 0} → (S → S → List ℕ → Type 0) → Strangers → Bool → SocketAddr → Patience → Option Arrival → List ℕ

@@ -1,4 +1,4 @@
--- Public vocabulary: how far the live rows of a head end are.
+-- Public vocabulary: how far the live rows of a head end are, as the progress line tells it.
 use Rattle.std.specs.Prelude.{ℕ, List, sum_by, unwrap_or}
 use Rattle.fw_head.specs.Row.{Row, blocks_in, known_of}
 

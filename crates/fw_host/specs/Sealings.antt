@@ -6,8 +6,6 @@ use Rattle.std.specs.declared.net.socket_addr.SocketAddr.{SocketAddr}
 use Rattle.std.specs.declared.net.socket_addr.SocketAddr.TheVariants as socket
 use Rattle.std.specs.declared.net.socket_addr.SocketAddrV4.{SocketAddrV4}
 use Rattle.fw_counter.specs.Reserved.{Reserves}
-use Rattle.fw_journal.specs.declared.error.JournalError.{JournalError}
-use Rattle.fw_journal.specs.declared.error.JournalError.TheVariants as journal
 use Rattle.fw_key_files.specs.declared.error.KeyFileError.{KeyFileError}
 use Rattle.fw_key_files.specs.declared.error.KeyFileError.TheVariants as key_file
 use Rattle.fw_keys.specs.declared.entry.Entry.{Entry}
@@ -103,16 +101,6 @@ fault_of_key_file key_file.KeysReadable = KeysReadable
 fault_of_key_file (key_file.BadKeys line why) = BadKeys line why
 fault_of_key_file key_file.NoRandomness = NoRandomness
 fault_of_key_file key_file.OutOfMemory = OutOfMemory
-
--- the fault that says why the file of a counter was not made or opened
-abbrev pub fault_of_counter_file : JournalError → Fault
-fault_of_counter_file (journal.BadBook offset) = CounterFault
-fault_of_counter_file journal.NotEmpty = CounterExists
-fault_of_counter_file journal.TooLong = CounterFault
-fault_of_counter_file journal.Full = CounterFault
-fault_of_counter_file journal.Locked = CounterLocked
-fault_of_counter_file journal.BookFault = CounterFault
-fault_of_counter_file journal.OutOfMemory = OutOfMemory
 
 -- of the key file of a meter
 abbrev pub IsOfMeterKeys : Fault → Type 0

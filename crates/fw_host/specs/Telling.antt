@@ -1,5 +1,4 @@
--- Public vocabulary: lines that are written one after another, and what is left of one that can't be written. The progress line has no
--- definition.
+-- Public vocabulary: lines that are written one after another, and what is left of one that can't be written.
 use Rattle.std.specs.Prelude.{◌≡◌, ℕ, Bool, false, List, [], ◌∷◌, ◌++◌, Option, Some, map}
 use Rattle.std.specs.List.{concat}
 use Rattle.std.specs.Io.KnownBytes.{Appends}

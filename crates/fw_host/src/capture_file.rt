@@ -9,7 +9,7 @@ ghost use Rattle.fw_host.specs.Captures.{BeginsCapture, IsForeign};
 
 use crate::capture_making::new_capture;
 use crate::error::CaptureFileError;
-use fw_capture::{Captured, Content, WholeError, file_header, whole_len};
+use fw_capture::{Captured, Content, FILE_HEADER_SIZE, WholeError, file_header, whole_len};
 use fw_disk::{Because, Cause, Name, SystemFolder, open};
 use fw_recording::{Sink, write_header, write_record};
 use std::alloc::{AllocError, Global};
@@ -18,9 +18,6 @@ use std::io::{BufReader, Read, Seek, SeekFrom};
 use std::os::unix::fs::FileExt;
 use std::rt::{Clock, Files};
 use std::time::{SystemTime, UNIX_EPOCH};
-
-/// The bytes of the file header of a capture.
-pub(crate) const HEADER_SIZE: usize = 24;
 
 /// The file of a daemon's capture, under the lock, where it ends. It is made where no file is there, as FILE.new, which is named FILE once the
 /// disk has its file header; and gone on with where one is. What the process is has its notes later ([`put_start`](crate::put_start)), once its
@@ -74,7 +71,7 @@ fn made<R: Files<File = File>>(
 
 /// Goes on with a capture: cuts off what is no whole record at its end. One that has no byte gets the file header.
 fn go_on(alloc: Global, file: &mut File) -> Result<(), Because<CaptureFileError>> {
-    let mut buffer = [0; HEADER_SIZE];
+    let mut buffer = [0; FILE_HEADER_SIZE];
     let count = read_front(file, &mut buffer).map_err(refused)?;
     keep_whole(alloc, file, &buffer[..count])?;
     go_to_end(file).map_err(refused)?;

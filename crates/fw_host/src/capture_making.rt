@@ -6,7 +6,7 @@ ghost use Rattle.fw_disk.specs.Disk.{absent, Goes, IsSynced};
 ghost use Rattle.fw_disk.specs.Ours.{MayTake, IsNamed, IsKept};
 ghost use Rattle.fw_host.specs.BegunCapture.{IsBegunCapture, MakesFile};
 
-use crate::capture_file::HEADER_SIZE;
+use fw_capture::FILE_HEADER_SIZE;
 use fw_disk::{FRONT_SIZE, Folder, Kind, Name, Reason, abandon, begin, fill, finish};
 
 /// What the first bytes of a capture are.
@@ -24,7 +24,7 @@ impl Kind for BegunCapture {
     ghost first = { λ _. 0 };
 
     fn is_ours(&self, front: &[u8], len: u64) -> bool {
-        len <= HEADER_SIZE as u64
+        len <= FILE_HEADER_SIZE as u64
             && (begins_as(front, &FRONT) || begins_as(front, &[0; FRONT_SIZE]))
     }
 

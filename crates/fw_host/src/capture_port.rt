@@ -2,7 +2,7 @@
 
 ghost use Rattle.std.specs.Prelude.{◌≡◌, ◌≤◌, ◌∷◌, IfOk, IfSome, IsErr, IsTrue, MatchBool, MatchOption, false, true, is_some, length, take};
 ghost use Rattle.fw_capture.specs.View.{datagram, endpoint_of};
-ghost use Rattle.fw_host.specs.Captures.{CapturesArrival, CapturesNoted, unserved_told};
+ghost use Rattle.fw_host.specs.Captures.{CapturesAll, CapturesArrival, CapturesNoted, dropped_told, is_of_stranger, unserved_told};
 ghost use Rattle.fw_port.specs.Acts.{came, quiet, sent};
 
 use crate::port_below::PortBelow;
@@ -24,6 +24,8 @@ pub struct CapturePort<'a, C: Clock, S: SyncedSink + Drop, P: PortBelow = UdpPor
     recorder: Recorder<'a, C, S>,
     /// Whether the last receive brought a datagram.
     has_heard: bool,
+    /// Whether it brought one of a stranger, behind whose record its turn is noted.
+    is_strangers: bool,
 }
 
 impl<'a, C: Clock, S: SyncedSink + Drop, P: PortBelow> CapturePort<'a, C, S, P> {
@@ -48,6 +50,7 @@ impl<'a, C: Clock, S: SyncedSink + Drop, P: PortBelow> CapturePort<'a, C, S, P> 
             port,
             recorder: Recorder::new(rt, alloc, at, strangers, sink, false),
             has_heard: false,
+            is_strangers: false,
         }
     }
 
@@ -72,6 +75,7 @@ impl<'a, C: Clock, S: SyncedSink + Drop, P: PortBelow> CapturePort<'a, C, S, P> 
             port,
             recorder: Recorder::new(rt, alloc, at, strangers, sink, true),
             has_heard: false,
+            is_strangers: false,
         }
     }
 
@@ -108,6 +112,7 @@ impl<'a, C: Clock, S: SyncedSink + Drop, P: PortBelow> CapturePort<'a, C, S, P> 
             (P.acts self.new.port.now ≡ quiet ∷ P.acts self.old.port.now)
             (λ a. P.acts self.new.port.now ≡ came a.from (take a.count buffer.new) ∷ P.acts self.old.port.now)) }
         ensures heard { IfOk result (λ came. self.new.has_heard ≡ is_some came) }
+        ensures strangers { IfOk result (λ came. self.new.is_strangers ≡ is_of_stranger self.old.recorder.strangers.now.known came) }
         ensures closed { self.old.recorder.failed ≡ true → IsErr result }
     {
         self.has_heard = false;
@@ -117,8 +122,23 @@ impl<'a, C: Clock, S: SyncedSink + Drop, P: PortBelow> CapturePort<'a, C, S, P> 
         self.recorder.settle()?;
         let came = self.port.receive(patience, buffer)?;
         self.has_heard = came.is_some();
+        self.is_strangers = self.recorder.is_of_stranger(came);
         self.recorder.put_arrival(patience, came, buffer)?;
         Ok(came)
+    }
+
+    /// Records the turn that follows where nothing is let through of what came last, unless it is noted as a stranger's. If that can't be recorded,
+    /// the port is closed.
+    pub(crate) fn note_dropped(&mut self, patience: Patience)
+        ensures recorded { self.new.recorder.failed ≡ false → CapturesAll S.takes self.old.recorder.strangers.now.count
+            self.old.recorder.sink self.new.recorder.sink (dropped_told self.old.is_strangers self.old.recorder.has_turns self.old.recorder.at patience) }
+    {
+        if !self.is_strangers {
+            match self.recorder.put_turn(patience) {
+                Ok(()) => {}
+                Err(Closed) => {}
+            }
+        }
     }
 
     /// Records that memory was refused for the datagram that came last. If that can't be recorded, the port is closed.

@@ -44,6 +44,11 @@ impl<'a, C: Clock, S: SyncedSink + Drop, P: PortBelow> WirePort for CapturePort<
     fn send_sealing(&mut self, to: SocketAddr, bytes: &[u8], _links: &Links) {
         self.send_recorded(to, bytes);
     }
+
+    /// A meter that verifies takes a turn then, which the capture has.
+    fn note_unopened(&mut self, patience: Patience) {
+        self.note_dropped(patience);
+    }
 }
 
 impl<'a, C: Clock, S: SyncedSink + Drop, P: PortBelow> DatagramPort for CapturePort<'a, C, S, P> {

@@ -3,12 +3,29 @@
 ghost use Rattle.std.specs.Prelude.{◌≡◌};
 ghost use Rattle.fw_faults.specs.declared.fault.Fault.TheVariants.{BadSetup};
 ghost use Rattle.fw_host.specs.Captures.{IsOfCapture};
-ghost use Rattle.fw_host.specs.Faults.{fault_of_capture, fault_of_new_store};
-ghost use Rattle.fw_host.specs.Meters.{IsOfSetup};
+ghost use Rattle.fw_host.specs.Errors.{new_book_error, new_counter_error, old_book_error, old_counter_error, reopened_error, store_error};
+ghost use Rattle.fw_host.specs.Faults.{
+  fault_of_capture,
+  fault_of_head_keys,
+  fault_of_meter_keys,
+  fault_of_new_book,
+  fault_of_new_counter,
+  fault_of_new_store,
+  fault_of_old_book,
+  fault_of_old_counter,
+  fault_of_store,
+};
+ghost use Rattle.fw_host.specs.Heads.{IsOfNewBook, IsOfOldBook};
+ghost use Rattle.fw_host.specs.Meters.{IsOfSetup, IsOfStore};
+ghost use Rattle.fw_host.specs.Sealings.{IsOfHeadKeys, IsOfMeterKeys, IsOfNewCounter, IsOfOldCounter};
+ghost use Rattle.fw_host.specs.declared.error.HeadKeysError.TheVariants as head_keys;
 ghost use Rattle.fw_host.specs.declared.error.ListError.TheVariants as list;
 ghost use Rattle.fw_host.specs.declared.error.NewStoreError.TheVariants as new_store;
 
 use fw_faults::Fault;
+use fw_image::OpenError;
+use fw_journal::JournalError;
+use fw_keys::BadLine;
 use std::alloc::{AllocError, AllocFailed};
 use std::fmt;
 use thiserror::Error;
@@ -106,6 +123,358 @@ impl From<NewStoreError> for Fault {
             NewStoreError::BadSetup => Fault::BadSetup,
             NewStoreError::FactoryFault => Fault::FactoryFault,
             NewStoreError::OutOfMemory => Fault::OutOfMemory,
+        }
+    }
+}
+
+/// Why the file of a store has no meter, or isn't made.
+#[derive(Clone, Copy, Debug, Error)]
+pub enum StoreFileError {
+    /// It can't be made or opened, or another program's file is beside it.
+    StoreFault,
+    /// It failed while the store in it was opened.
+    Device,
+    /// It has a length that no store has, or begins with a capacity that none has.
+    BadFile,
+    /// The header of its store isn't one that it can have.
+    BadHeader,
+    /// An image in its store, which runs or is verified, hasn't the digest of its name.
+    BadImage,
+}
+
+impl fmt::Display for StoreFileError {
+    fn fmt<W: fmt::Write>(&self, f: &mut fmt::Formatter<W>) -> fmt::Result {
+        match self {
+            StoreFileError::Device => f.write_str("Fault"),
+            other => fmt::Debug::fmt(other, f),
+        }
+    }
+}
+
+impl From<OpenError> for StoreFileError {
+    ghost from_gives = { λ error e. e ≡ store_error error };
+
+    fn from(error: OpenError) -> StoreFileError {
+        match error {
+            OpenError::Fault => StoreFileError::Device,
+            OpenError::BadHeader => StoreFileError::BadHeader,
+            OpenError::BadImage => StoreFileError::BadImage,
+        }
+    }
+}
+
+impl From<StoreFileError> for Fault {
+    ghost from_gives = { λ error fault. (fault ≡ fault_of_store error) × IsOfStore fault };
+
+    fn from(error: StoreFileError) -> Fault {
+        match error {
+            StoreFileError::StoreFault => Fault::StoreFault,
+            StoreFileError::Device => Fault::Device,
+            StoreFileError::BadFile => Fault::BadFile,
+            StoreFileError::BadHeader => Fault::BadHeader,
+            StoreFileError::BadImage => Fault::BadImage,
+        }
+    }
+}
+
+/// Why a head end doesn't begin with the book in a file. It prints its name, and of a bad book the offset, or the index of the record.
+#[derive(Clone, Copy, Debug, Error)]
+pub enum BookFileError {
+    /// No file is there.
+    NoBook,
+    /// Another process has the lock on the book.
+    Locked,
+    /// The file can't be opened, read, written or synced, or not be written anew.
+    BookFault,
+    /// The bytes of the file from this offset on are no book's.
+    BadBook(u64),
+    /// The record with this index, counted from 0, has no place in the book.
+    BadRecord(usize),
+    /// The book is another head end's.
+    ForeignHead,
+    /// Memory was refused.
+    OutOfMemory,
+}
+
+impl fmt::Display for BookFileError {
+    fn fmt<W: fmt::Write>(&self, f: &mut fmt::Formatter<W>) -> fmt::Result {
+        match self {
+            BookFileError::BadBook(offset) => write!(f, "BadBook {offset}"),
+            BookFileError::BadRecord(index) => write!(f, "BadRecord {index}"),
+            other => fmt::Debug::fmt(other, f),
+        }
+    }
+}
+
+impl From<JournalError> for BookFileError {
+    ghost from_gives = { λ error e. e ≡ old_book_error error };
+
+    fn from(error: JournalError) -> BookFileError {
+        match error {
+            JournalError::BadBook { offset } => BookFileError::BadBook(offset),
+            JournalError::Locked => BookFileError::Locked,
+            JournalError::OutOfMemory => BookFileError::OutOfMemory,
+            JournalError::NotEmpty
+            | JournalError::TooLong
+            | JournalError::Full
+            | JournalError::BookFault => BookFileError::BookFault,
+        }
+    }
+}
+
+impl From<fw_kept::OpenError> for BookFileError {
+    ghost from_gives = { λ error e. e ≡ reopened_error error };
+
+    fn from(error: fw_kept::OpenError) -> BookFileError {
+        match error {
+            fw_kept::OpenError::BadBook { offset } => BookFileError::BadBook(offset),
+            fw_kept::OpenError::BadRecord { index } => BookFileError::BadRecord(index),
+            fw_kept::OpenError::ForeignHead => BookFileError::ForeignHead,
+            fw_kept::OpenError::BookFault => BookFileError::BookFault,
+            fw_kept::OpenError::OutOfMemory => BookFileError::OutOfMemory,
+        }
+    }
+}
+
+impl From<BookFileError> for Fault {
+    ghost from_gives = { λ error fault. (fault ≡ fault_of_old_book error) × IsOfOldBook fault };
+
+    fn from(error: BookFileError) -> Fault {
+        match error {
+            BookFileError::NoBook => Fault::NoBook,
+            BookFileError::Locked => Fault::Locked,
+            BookFileError::BookFault => Fault::BookFault,
+            BookFileError::BadBook(offset) => Fault::BadBook(offset),
+            BookFileError::BadRecord(index) => Fault::BadRecord(index),
+            BookFileError::ForeignHead => Fault::ForeignHead,
+            BookFileError::OutOfMemory => Fault::OutOfMemory,
+        }
+    }
+}
+
+/// Why no file of a new book is made.
+#[derive(Clone, Copy, Debug, Error)]
+pub enum NewBookError {
+    /// A file is there.
+    BookExists,
+    /// Another process makes it.
+    Locked,
+    /// It can't be looked for, made, written or synced.
+    BookFault,
+    /// Memory was refused.
+    OutOfMemory,
+}
+
+impl fmt::Display for NewBookError {
+    fn fmt<W: fmt::Write>(&self, f: &mut fmt::Formatter<W>) -> fmt::Result {
+        fmt::Debug::fmt(self, f)
+    }
+}
+
+impl From<JournalError> for NewBookError {
+    ghost from_gives = { λ error e. e ≡ new_book_error error };
+
+    fn from(error: JournalError) -> NewBookError {
+        match error {
+            JournalError::NotEmpty => NewBookError::BookExists,
+            JournalError::Locked => NewBookError::Locked,
+            JournalError::OutOfMemory => NewBookError::OutOfMemory,
+            JournalError::BadBook { .. }
+            | JournalError::TooLong
+            | JournalError::Full
+            | JournalError::BookFault => NewBookError::BookFault,
+        }
+    }
+}
+
+impl From<NewBookError> for Fault {
+    ghost from_gives = { λ error fault. (fault ≡ fault_of_new_book error) × IsOfNewBook fault };
+
+    fn from(error: NewBookError) -> Fault {
+        match error {
+            NewBookError::BookExists => Fault::BookExists,
+            NewBookError::Locked => Fault::Locked,
+            NewBookError::BookFault => Fault::BookFault,
+            NewBookError::OutOfMemory => Fault::OutOfMemory,
+        }
+    }
+}
+
+/// Why the counter in a file isn't gone on with.
+#[derive(Clone, Copy, Debug, Error)]
+pub enum CounterFileError {
+    /// No file is there.
+    NoCounter,
+    /// Another process has the counter.
+    CounterLocked,
+    /// The file can't be opened, read, written or synced, or not be written anew, or has no counter.
+    CounterFault,
+    /// Memory was refused.
+    OutOfMemory,
+}
+
+impl fmt::Display for CounterFileError {
+    fn fmt<W: fmt::Write>(&self, f: &mut fmt::Formatter<W>) -> fmt::Result {
+        fmt::Debug::fmt(self, f)
+    }
+}
+
+impl From<JournalError> for CounterFileError {
+    ghost from_gives = { λ error e. e ≡ old_counter_error error };
+
+    fn from(error: JournalError) -> CounterFileError {
+        match error {
+            JournalError::Locked => CounterFileError::CounterLocked,
+            JournalError::OutOfMemory => CounterFileError::OutOfMemory,
+            JournalError::BadBook { .. }
+            | JournalError::NotEmpty
+            | JournalError::TooLong
+            | JournalError::Full
+            | JournalError::BookFault => CounterFileError::CounterFault,
+        }
+    }
+}
+
+impl From<CounterFileError> for Fault {
+    ghost from_gives = { λ error fault. (fault ≡ fault_of_old_counter error) × IsOfOldCounter fault };
+
+    fn from(error: CounterFileError) -> Fault {
+        match error {
+            CounterFileError::NoCounter => Fault::NoCounter,
+            CounterFileError::CounterLocked => Fault::CounterLocked,
+            CounterFileError::CounterFault => Fault::CounterFault,
+            CounterFileError::OutOfMemory => Fault::OutOfMemory,
+        }
+    }
+}
+
+/// Why no file of a new counter is made.
+#[derive(Clone, Copy, Debug, Error)]
+pub enum NewCounterError {
+    /// A file is there.
+    CounterExists,
+    /// Another process makes it.
+    CounterLocked,
+    /// It can't be looked for, made, written or synced.
+    CounterFault,
+    /// Memory was refused.
+    OutOfMemory,
+}
+
+impl fmt::Display for NewCounterError {
+    fn fmt<W: fmt::Write>(&self, f: &mut fmt::Formatter<W>) -> fmt::Result {
+        fmt::Debug::fmt(self, f)
+    }
+}
+
+impl From<JournalError> for NewCounterError {
+    ghost from_gives = { λ error e. e ≡ new_counter_error error };
+
+    fn from(error: JournalError) -> NewCounterError {
+        match error {
+            JournalError::NotEmpty => NewCounterError::CounterExists,
+            JournalError::Locked => NewCounterError::CounterLocked,
+            JournalError::OutOfMemory => NewCounterError::OutOfMemory,
+            JournalError::BadBook { .. }
+            | JournalError::TooLong
+            | JournalError::Full
+            | JournalError::BookFault => NewCounterError::CounterFault,
+        }
+    }
+}
+
+impl From<NewCounterError> for Fault {
+    ghost from_gives = { λ error fault. (fault ≡ fault_of_new_counter error) × IsOfNewCounter fault };
+
+    fn from(error: NewCounterError) -> Fault {
+        match error {
+            NewCounterError::CounterExists => Fault::CounterExists,
+            NewCounterError::CounterLocked => Fault::CounterLocked,
+            NewCounterError::CounterFault => Fault::CounterFault,
+            NewCounterError::OutOfMemory => Fault::OutOfMemory,
+        }
+    }
+}
+
+/// Why a meter has no links of a key file. It prints its name, and of bad keys the number of the line and what is wrong with it.
+#[derive(Clone, Copy, Debug, Error)]
+pub enum MeterKeysError {
+    /// The file can't be opened or read.
+    KeysFault,
+    /// Others than its owner may read or write it.
+    KeysReadable,
+    /// The line of this number, counted from 1, is the first with which it is no key file, and what is wrong with it.
+    BadKeys(u64, BadLine),
+    /// Memory was refused.
+    OutOfMemory,
+}
+
+impl fmt::Display for MeterKeysError {
+    fn fmt<W: fmt::Write>(&self, f: &mut fmt::Formatter<W>) -> fmt::Result {
+        match self {
+            MeterKeysError::BadKeys(number, cause) => write!(f, "BadKeys {number} {cause}"),
+            other => fmt::Debug::fmt(other, f),
+        }
+    }
+}
+
+impl From<MeterKeysError> for Fault {
+    ghost from_gives = { λ error fault. (fault ≡ fault_of_meter_keys error) × IsOfMeterKeys fault };
+
+    fn from(error: MeterKeysError) -> Fault {
+        match error {
+            MeterKeysError::KeysFault => Fault::KeysFault,
+            MeterKeysError::KeysReadable => Fault::KeysReadable,
+            MeterKeysError::BadKeys(number, cause) => Fault::BadKeys(number, cause),
+            MeterKeysError::OutOfMemory => Fault::OutOfMemory,
+        }
+    }
+}
+
+/// Why a head end has no links of a key file with the meters of its list. It prints its name, of bad keys the number of the line and what is
+/// wrong with it, and without a key the number of the meter.
+#[derive(Clone, Copy, Debug, Error)]
+pub enum HeadKeysError {
+    /// The file can't be opened or read.
+    KeysFault,
+    /// Others than its owner may read or write it.
+    KeysReadable,
+    /// The line of this number, counted from 1, is the first with which it is no key file, and what is wrong with it.
+    BadKeys(u64, BadLine),
+    /// The list has the meter of this number, and the file has no line of it.
+    NoKey(u32),
+    /// Memory was refused.
+    OutOfMemory,
+}
+
+impl fmt::Display for HeadKeysError {
+    fn fmt<W: fmt::Write>(&self, f: &mut fmt::Formatter<W>) -> fmt::Result {
+        match self {
+            HeadKeysError::BadKeys(number, cause) => write!(f, "BadKeys {number} {cause}"),
+            HeadKeysError::NoKey(meter) => write!(f, "NoKey {meter}"),
+            other => fmt::Debug::fmt(other, f),
+        }
+    }
+}
+
+impl From<AllocError> for HeadKeysError {
+    ghost from_gives = { λ _ e. e ≡ head_keys.OutOfMemory };
+
+    fn from(_error: AllocError) -> HeadKeysError {
+        HeadKeysError::OutOfMemory
+    }
+}
+
+impl From<HeadKeysError> for Fault {
+    ghost from_gives = { λ error fault. (fault ≡ fault_of_head_keys error) × IsOfHeadKeys fault };
+
+    fn from(error: HeadKeysError) -> Fault {
+        match error {
+            HeadKeysError::KeysFault => Fault::KeysFault,
+            HeadKeysError::KeysReadable => Fault::KeysReadable,
+            HeadKeysError::BadKeys(number, cause) => Fault::BadKeys(number, cause),
+            HeadKeysError::NoKey(meter) => Fault::NoKey(meter),
+            HeadKeysError::OutOfMemory => Fault::OutOfMemory,
         }
     }
 }

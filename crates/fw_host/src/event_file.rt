@@ -8,7 +8,7 @@ use crate::event_making::{FRONT, FRONT_LEN, new_events, try_new_events};
 use fw_disk::{Cause, Name, Reason, SystemFolder, open};
 use fw_events::{Event, ToldRows, event_line, fault_line};
 use fw_names::HeadId;
-use std::alloc::Global;
+use std::alloc::{AllocError, Global};
 use std::cell::Cell;
 use std::fs::File;
 use std::io::{BufRead, BufReader, Seek, SeekFrom};
@@ -28,6 +28,8 @@ pub struct EventFile {
     is_unsynced: Cell<bool>,
     /// When the next event happens, in nanoseconds since 1970 began (UTC).
     time: Cell<u64>,
+    /// Why an event was lost, if one was: the last of them.
+    cause: Cell<Option<Cause>>,
 }
 
 impl EventFile {
@@ -89,6 +91,7 @@ impl EventFile {
             len: Cell::new(len),
             is_unsynced: Cell::new(false),
             time: Cell::new(now(rt)),
+            cause: Cell::new(None),
         };
         Ok((events, told))
     }
@@ -98,17 +101,26 @@ impl EventFile {
         self.time.set(now(rt));
     }
 
+    /// Why an event was lost, if one was: the last of them.
+    pub fn cause(&self) -> Option<Cause> {
+        self.cause.get()
+    }
+
     /// Appends an event.
     pub fn tell(&self, event: Event) {
-        if let Ok(line) = event_line(self.alloc, self.time.get(), self.head, event) {
-            self.put(line.as_bytes());
-        }
+        self.tell_line(event_line(self.alloc, self.time.get(), self.head, event));
     }
 
     /// Appends that a fault of this name ended the head end.
     pub fn tell_fault(&self, name: &str) {
-        if let Ok(line) = fault_line(self.alloc, self.time.get(), self.head, name) {
-            self.put(line.as_bytes());
+        self.tell_line(fault_line(self.alloc, self.time.get(), self.head, name));
+    }
+
+    /// Appends a line, if there was memory for it.
+    fn tell_line(&self, line: Result<String, AllocError>) {
+        match line {
+            Ok(line) => self.put(line.as_bytes()),
+            Err(error) => self.cause.set(Some(Cause::from(error))),
         }
     }
 
@@ -126,9 +138,12 @@ impl EventFile {
         if at == 0 && !line.starts_with(FRONT) {
             return;
         }
-        if self.file.write_all_at(line, at).is_ok() {
-            self.len.set(at.saturating_add(line.len() as u64));
-            self.is_unsynced.set(true);
+        match self.file.write_all_at(line, at) {
+            Ok(()) => {
+                self.len.set(at.saturating_add(line.len() as u64));
+                self.is_unsynced.set(true);
+            }
+            Err(error) => self.cause.set(Some(Cause::from(error))),
         }
     }
 }

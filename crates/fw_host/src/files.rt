@@ -5,7 +5,6 @@ ghost use Rattle.fw_disk.specs.declared.cause.Cause.TheVariants.{Missing};
 ghost use Rattle.fw_disk.specs.declared.name.Name.TheVariants.{Main};
 
 use fw_disk::{Because, Cause, Name, Reason, SystemFolder};
-use fw_faults::Fault;
 use std::fs::File;
 use std::rt::Files;
 
@@ -13,18 +12,18 @@ use std::rt::Files;
 ///
 /// # Errors
 ///
-/// This fault, with its reason: the path is too long.
-pub(crate) fn folder_of<'a, F: Files<File = File>>(
+/// This error, with its reason: the path is too long.
+pub(crate) fn folder_of<'a, F: Files<File = File>, E: Drop>(
     rt: &'a F,
     path: &'a str,
-    fault: Fault,
-) -> Result<SystemFolder<'a, F>, Because<Fault>>
-    ensures fault { IfErr result (λ b. b.error ≡ fault) }
+    error: E,
+) -> Result<SystemFolder<'a, F>, Because<E>>
+    ensures error { IfErr result (λ b. b.error ≡ error) }
     ensures reason { IfErr result (λ b. IfSome b.reason (λ r. r.name ≡ Main)) }
 {
     match SystemFolder::of(rt, path) {
         Ok(folder) => Ok(folder),
-        Err(cause) => Err(Because::of(fault, cause.at(Name::Main))),
+        Err(cause) => Err(Because::of(error, cause.at(Name::Main))),
     }
 }
 

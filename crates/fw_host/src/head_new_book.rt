@@ -5,17 +5,17 @@ ghost use Rattle.std.specs.Option.{option_map};
 ghost use Rattle.fw_disk.specs.declared.name.Name.TheVariants.{Main, New};
 ghost use Rattle.fw_disk.specs.Disk.{absent, Goes};
 ghost use Rattle.fw_disk.specs.Calls.{Stays};
-ghost use Rattle.fw_head.specs.Head.{new_head};
+ghost use Rattle.fw_head.specs.Head.{BeginsWith, new_head};
 ghost use Rattle.fw_journal.specs.File.{cause_of};
 ghost use Rattle.fw_journal.specs.Refusals.{IsFileRefusal, IsNamingRefusal};
-ghost use Rattle.fw_kept.specs.Head.{head_of};
-ghost use Rattle.fw_faults.specs.Faults.{fault_of_device};
-ghost use Rattle.fw_host.specs.Heads.{IsOfNewBook, LeavesNewBook};
+ghost use Rattle.fw_kept.specs.Head.{book_of, head_of};
+ghost use Rattle.fw_host.specs.Errors.{new_book_error};
+ghost use Rattle.fw_host.specs.Heads.{LeavesNewBook};
 
+use crate::error::NewBookError;
 use crate::files::folder_of;
 use fw_blocks::Width;
 use fw_disk::{Because, Cause, Folder, Found, Name, Reason, SystemFolder};
-use fw_faults::Fault;
 use fw_journal::{FileDevice, JournalDevice, JournalError};
 use fw_kept::KeptHead;
 use fw_names::HeadId;
@@ -28,41 +28,50 @@ use std::rt::Files;
 /// # Errors
 ///
 /// `BookExists`, also for a link to nothing, and `BookFault` if it can't be looked for, each with its reason.
-pub fn check_absent<F: Files<File = File>>(rt: &F, path: &str) -> Result<(), Because<Fault>>
-    ensures faults { IfErr result (λ b. (b.error ≡ Fault.BookExists) ⊎ (b.error ≡ Fault.BookFault)) }
+pub fn check_absent<F: Files<File = File>>(rt: &F, path: &str) -> Result<(), Because<NewBookError>>
+    ensures errors { IfErr result (λ b. (b.error ≡ NewBookError.BookExists) ⊎ (b.error ≡ NewBookError.BookFault)) }
 {
-    let mut folder = folder_of(rt, path, Fault::BookFault)?;
+    let mut folder = folder_of(rt, path, NewBookError::BookFault)?;
     check_no_book(&mut folder)
 }
 
 /// Checks that nothing is FILE.
-fn check_no_book<F: Folder>(folder: &mut F) -> Result<(), Because<Fault>>
+fn check_no_book<F: Folder>(folder: &mut F) -> Result<(), Because<NewBookError>>
     ensures absent { IsTrue (F.seen folder.old).honest → OnOk result ((F.seen folder.old).disk.entry Main ≡ absent) }
     ensures exists { IsTrue (F.seen folder.old).honest
-        → IfErr result (λ b. b.error ≡ Fault.BookExists → (F.seen folder.old).disk.entry Main ≢ absent) }
+        → IfErr result (λ b. b.error ≡ NewBookError.BookExists → (F.seen folder.old).disk.entry Main ≢ absent) }
     ensures goes { Goes Stays (F.seen folder.old) (F.seen folder.new) }
-    ensures faults { IfErr result (λ b. (b.error ≡ Fault.BookExists) ⊎ (b.error ≡ Fault.BookFault)) }
+    ensures errors { IfErr result (λ b. (b.error ≡ NewBookError.BookExists) ⊎ (b.error ≡ NewBookError.BookFault)) }
 {
     match folder.look(Name::Main) {
         Ok(Found::Absent) => Ok(()),
-        Ok(_) => Err(Because::of(Fault::BookExists, Cause::Exists.at(Name::Main))),
-        Err(cause) => Err(Because::of(Fault::BookFault, cause.at(Name::Main))),
+        Ok(_) => Err(Because::of(NewBookError::BookExists, Cause::Exists.at(Name::Main))),
+        Err(cause) => Err(Because::of(NewBookError::BookFault, cause.at(Name::Main))),
     }
 }
 
-/// A head end without campaigns, with its book in a new file: FILE.new, which is made, or is what a head end left that was killed while it
-/// made its book. A file of any other bytes is `BookFault`, and stays.
-pub(crate) fn make<F: Files<File = File>>(
+/// The head end of this number without campaigns, with its book in a new file. That is made as FILE.new, and named FILE once the disk has all
+/// of it. What a head end left as FILE.new that was killed while it made its book is gone on with. A file of any other bytes stays.
+///
+/// # Errors
+///
+/// - `BookExists`, also for a link to nothing.
+/// - `Locked`: another process makes the file. `BookFault`: it can't be made, read, written or synced, or FILE.new is a file of others.
+/// - `OutOfMemory`.
+///
+/// All but the last have their reason, if it is known.
+pub fn make_book<F: Files<File = File>>(
     rt: &F,
     alloc: Global,
     path: &str,
     head: HeadId,
     width: Width,
-) -> Result<KeptHead<FileDevice>, Because<Fault>>
+) -> Result<KeptHead<FileDevice>, Because<NewBookError>>
     ensures new { IfOk result (λ kept. head_of kept ≡ new_head head width) }
-    ensures faults { IfErr result (λ b. IsOfNewBook b.error) }
+    ensures begun { IfOk result (λ kept. BeginsWith (book_of kept) width (head_of kept)) }
+    ensures number { IfOk result (λ kept. (book_of kept).head ≡ head) }
 {
-    let mut folder = folder_of(rt, path, Fault::BookFault)?;
+    let mut folder = folder_of(rt, path, NewBookError::BookFault)?;
     check_no_book(&mut folder)?;
     match new_device(&mut folder) {
         Ok(device) => make_on(alloc, head, width, device, &mut folder),
@@ -94,15 +103,14 @@ fn make_on<D: JournalDevice + Drop, M: Making<D>>(
     width: Width,
     device: D,
     making: &mut M,
-) -> Result<KeptHead<D>, Because<Fault>>
+) -> Result<KeptHead<D>, Because<NewBookError>>
     ensures new { IfOk result (λ kept. head_of kept ≡ new_head head width) }
-    ensures faults { IfErr result (λ b. IsOfNewBook b.error) }
 {
     let kept = match KeptHead::create(alloc, head, width, device) {
         Ok(kept) => kept,
         Err((error, device)) => {
             return Err(Because {
-                error: Fault::from(error),
+                error: NewBookError::from(error),
                 reason: making.reason(&device),
             });
         }
@@ -113,13 +121,13 @@ fn make_on<D: JournalDevice + Drop, M: Making<D>>(
     }
 }
 
-/// The fault that a refusal of a book's file is, with its reason.
-fn refused(because: Because<JournalError>) -> Because<Fault>
-    ensures error { result.error ≡ fault_of_device because.error }
+/// What a refusal of a new book's file is, with its reason.
+fn refused(because: Because<JournalError>) -> Because<NewBookError>
+    ensures error { result.error ≡ new_book_error because.error }
     ensures reason { result.reason ≡ because.reason }
 {
     Because {
-        error: Fault::from(because.error),
+        error: NewBookError::from(because.error),
         reason: because.reason,
     }
 }

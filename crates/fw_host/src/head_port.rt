@@ -43,6 +43,7 @@ impl<'a, 'w, C: Clock + Eprint, W: Write, P: DatagramPort + Drop> UdpHeadPort<'a
         ensures lost { result.lines.now.lost ≡ lines.old.lost }
         ensures unwritten { W.contents result.lines.now.writer.now ≡ W.contents lines.old.writer.now }
         ensures time { result.clock.time ≡ 0 }
+        ensures clears { result.clears ≡ clears }
     {
         UdpHeadPort {
             rt,

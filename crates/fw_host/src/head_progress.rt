@@ -3,9 +3,10 @@
 ghost use Rattle.std.specs.Prelude.{◌≡◌, None};
 
 use crate::head_reach::{Lasting, Short, Since, known_among, needed_among, scaled};
+use fw_disk::Cause;
 use fw_events::met_after;
 use fw_head::HeadCore;
-use fw_rollout::{Counts, HeadWatch, Stuck};
+use fw_rollout::{Counts, HeadWatch, MILLISECOND, SECOND, Stuck};
 use fw_rows::head_number;
 use std::fmt;
 
@@ -16,12 +17,6 @@ pub(crate) const CLEARED: &str = "\r\u{1b}[K";
 const CUT_OFF: &str = "\u{1b}[?7l";
 
 const WRAPPED: &str = "\u{1b}[?7h";
-
-/// The microseconds of a second.
-const SECOND: u64 = 1_000_000;
-
-/// Those of a millisecond.
-const MILLISECOND: u64 = 1_000;
 
 /// Where the command `head` shows how far it is, and how often.
 #[derive(Clone, Copy, PartialEq, Eq, Debug)]
@@ -142,6 +137,24 @@ impl fmt::Display for NoProgress {
     }
 }
 
+/// The line of what a head end can't write of itself beside its lines, and why.
+#[derive(Clone, Copy)]
+pub enum Unwritten {
+    /// An event.
+    Event(Cause),
+    /// A page of metrics.
+    Page(Cause),
+}
+
+impl fmt::Display for Unwritten {
+    fn fmt<W: fmt::Write>(&self, f: &mut fmt::Formatter<W>) -> fmt::Result {
+        match self {
+            Unwritten::Event(cause) => write!(f, "an event can't be written: {cause}"),
+            Unwritten::Page(cause) => write!(f, "a page of metrics can't be written: {cause}"),
+        }
+    }
+}
+
 /// How far the command `head` is, as standard error shows it. The progress line of a terminal is cleared when it is dropped. A write that
 /// fails is passed over.
 pub struct HeadProgress<'a, E: Eprint> {
@@ -226,6 +239,18 @@ impl<'a, E: Eprint> HeadProgress<'a, E> {
                 let _ = eprintln!(self.rt; "{line}");
             }
             ProgressOutput::Hidden => {}
+        }
+    }
+
+    /// Writes what can't be written elsewhere, also if no progress is shown.
+    pub fn tell_unwritten(&self, unwritten: Unwritten) {
+        match self.output {
+            ProgressOutput::Terminal => {
+                let _ = eprintln!(self.rt; "{CLEARED}{unwritten}");
+            }
+            ProgressOutput::Log { every: _ } | ProgressOutput::Hidden => {
+                let _ = eprintln!(self.rt; "{unwritten}");
+            }
         }
     }
 

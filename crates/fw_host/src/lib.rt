@@ -43,19 +43,22 @@ pub use busy::{BusyMeter, busy_meter};
 pub use capture_file::open_capture;
 pub use capture_port::CapturePort;
 pub use capture_start::{Started, put_start};
-pub use counter_file::{check_no_counter, kept_counters};
+pub use counter_file::{check_no_counter, make_counters, open_counters};
 pub use datagram_port::{ClosedBy, DatagramPort};
 pub use dating::date;
-pub use error::{CaptureFileError, ListError, NewStoreError};
+pub use error::{
+    BookFileError, CaptureFileError, CounterFileError, HeadKeysError, ListError, MeterKeysError,
+    NewBookError, NewCounterError, NewStoreError, StoreFileError,
+};
 pub use event_file::EventFile;
-pub use head_book::{BookOptions, kept_head};
+pub use head_book::{BookOptions, open_book};
 pub use head_lines::untaken_line;
-pub use head_new_book::check_absent;
+pub use head_new_book::{check_absent, make_book};
 pub use head_opening::{
     Opening, cancel, cancels_of, check_cancel, check_parts, listed_meters, open_part, parts_of,
 };
 pub use head_port::UdpHeadPort;
-pub use head_progress::{HeadProgress, ProgressOutput};
+pub use head_progress::{HeadProgress, ProgressOutput, Unwritten};
 pub use lines::Lines;
 pub use list_cause::{ListCause, line_cause};
 pub use meter_lines::listening_line;

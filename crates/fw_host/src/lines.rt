@@ -66,6 +66,7 @@ impl<'a, W: Write> Lines<'a, W> {
         ensures writer { self.new.writer.ghost_name ≡ self.old.writer.ghost_name }
         ensures unwritten { W.contents self.new.writer.now ≡ W.contents self.old.writer.now }
         ensures lost { self.new.lost ≡ self.old.lost }
+        ensures events { self.new.events ≡ events.entry }
     {
         self.events = events;
     }

@@ -1,18 +1,19 @@
 //! The store of the command `meter`: the one in a file that is there, or a new one, which is made once all is judged.
 
 ghost use Rattle.std.specs.Prelude.{◌≡◌, ◌≢◌, None, IfOk, IfErr, IfNone, IfSome, OnSome};
+ghost use Rattle.fw_store.specs.Refusals.{IsReopenRefusal};
 ghost use Rattle.fw_store.specs.Setup.{IsSetup};
 ghost use Rattle.fw_store.specs.declared.version.HeaderVersion.TheVariants.{Two};
 ghost use Rattle.fw_image.specs.Meter.{restarted};
 ghost use Rattle.fw_image.specs.Stored.{Opens, Refused};
 ghost use Rattle.fw_image.specs.declared.error.OpenError.{OpenError};
-ghost use Rattle.fw_faults.specs.Faults.{fault_of_file, fault_of_opening};
-ghost use Rattle.fw_host.specs.Meters.{IsOfStore, default_factory};
+ghost use Rattle.fw_host.specs.Errors.{store_error};
+ghost use Rattle.fw_host.specs.Meters.{default_factory};
 
-use crate::error::NewStoreError;
+use crate::error::{NewStoreError, StoreFileError};
 use crate::files::{folder_of, is_missing};
 use fw_disk::{Because, Folder};
-use fw_faults::{Fault, InputError, Reads, read_input};
+use fw_faults::{InputError, Reads, read_input};
 use fw_meter::MeterCore;
 use fw_store::{FileStore, FileStoreError, HeaderVersion, ImageStore, is_setup};
 use std::alloc::Global;
@@ -59,6 +60,7 @@ impl NewStore {
         ensures factory { fresh.now.factory_file ≡ None → IfOk result (λ new. new.factory.items ≡ default_factory) }
         ensures bad_setup { fresh.now.factory_file ≡ None → result ≡ Err NewStoreError.BadSetup
             → ¬ IsSetup Two fresh.now.block_size fresh.now.capacity default_factory }
+        ensures factory_fault { fresh.now.factory_file ≡ None → result ≢ Err NewStoreError.FactoryFault }
     {
         let factory = factory_of(rt, alloc, fresh)?;
         match NewStore::of(fresh.block_size, fresh.capacity, factory) {
@@ -95,22 +97,23 @@ impl NewStore {
         &self,
         rt: &F,
         path: &str,
-    ) -> Result<MeterCore<FileStore>, Because<Fault>>
+    ) -> Result<MeterCore<FileStore>, Because<StoreFileError>>
         ensures begins { IfOk result (λ meter. restarted meter.meter ≡ meter.meter) }
         ensures faultless { IfOk result (λ meter. meter.faults ≡ 0) }
-        ensures faults { IfErr result (λ b. IsOfStore b.error) }
+        ensures whole { IfErr result (λ b. b.error ≢ StoreFileError.BadFile) }
     {
-        let mut folder = folder_of(rt, path, Fault::StoreFault)?;
+        let mut folder = folder_of(rt, path, StoreFileError::StoreFault)?;
         let made = FileStore::create_in(&mut folder, self.capacity, self.block_size, &self.factory);
         match made {
             Ok(store) => match opened(store) {
                 Ok(meter) => Ok(meter),
-                Err(fault) => Err(Because::from(fault)),
+                Err(error) => Err(Because::from(error)),
             },
             Err(because) => match because.error {
-                // It can be made with these.
-                FileStoreError::BadSetup => unreachable!(),
-                _ => Err(refused(because)),
+                FileStoreError::StoreFault => Err(refused(because)),
+                // It can be made with these, and nothing is read of what is made.
+                FileStoreError::BadSetup | FileStoreError::OutOfMemory | FileStoreError::BadFile =>
+                    unreachable!(),
             },
         }
     }
@@ -127,16 +130,15 @@ impl NewStore {
 pub fn found_meter<F: Files<File = File>>(
     rt: &F,
     path: &str,
-) -> Result<Option<MeterCore<FileStore>>, Because<Fault>>
+) -> Result<Option<MeterCore<FileStore>>, Because<StoreFileError>>
     ensures begins { IfOk result (λ found. IfSome found (λ meter. restarted meter.meter ≡ meter.meter)) }
     ensures faultless { IfOk result (λ found. IfSome found (λ meter. meter.faults ≡ 0)) }
-    ensures faults { IfErr result (λ b. IsOfStore b.error) }
 {
-    let mut folder = folder_of(rt, path, Fault::StoreFault)?;
+    let mut folder = folder_of(rt, path, StoreFileError::StoreFault)?;
     match FileStore::reopen_in(&mut folder) {
         Ok(store) => match opened(store) {
             Ok(meter) => Ok(Some(meter)),
-            Err(fault) => Err(Because::from(fault)),
+            Err(error) => Err(Because::from(error)),
         },
         Err(because) if is_missing(because.reason) => {
             check_new(&mut folder)?;
@@ -147,8 +149,8 @@ pub fn found_meter<F: Files<File = File>>(
 }
 
 /// Checks that a store can be made.
-fn check_new<F: Folder>(folder: &mut F) -> Result<(), Because<Fault>>
-    ensures { IfErr result (λ b. b.error ≡ Fault.StoreFault) }
+fn check_new<F: Folder>(folder: &mut F) -> Result<(), Because<StoreFileError>>
+    ensures { IfErr result (λ b. b.error ≡ StoreFileError.StoreFault) }
 {
     match FileStore::check_absent_in(folder) {
         Ok(()) => Ok(()),
@@ -156,13 +158,20 @@ fn check_new<F: Folder>(folder: &mut F) -> Result<(), Because<Fault>>
     }
 }
 
-/// The fault that a refusal of a store's files is, with its reason.
-fn refused(because: Because<FileStoreError>) -> Because<Fault>
-    ensures error { result.error ≡ fault_of_file because.error }
+/// What a refusal of a store's files is, with its reason.
+fn refused(because: Because<FileStoreError>) -> Because<StoreFileError>
+    requires { IsReopenRefusal because.error }
+    ensures fault { because.error ≡ FileStoreError.StoreFault → result.error ≡ StoreFileError.StoreFault }
+    ensures file { because.error ≡ FileStoreError.BadFile → result.error ≡ StoreFileError.BadFile }
     ensures reason { result.reason ≡ because.reason }
 {
+    let error = match because.error {
+        FileStoreError::StoreFault => StoreFileError::StoreFault,
+        FileStoreError::BadFile => StoreFileError::BadFile,
+        FileStoreError::BadSetup | FileStoreError::OutOfMemory => unreachable!(),
+    };
     Because {
-        error: Fault::from(because.error),
+        error,
         reason: because.reason,
     }
 }
@@ -173,16 +182,16 @@ fn refused(because: Because<FileStoreError>) -> Because<Fault>
 ///
 /// - `Device`: the store failed.
 /// - `BadHeader` or `BadImage`: it holds no meter.
-fn opened<S: ImageStore + Drop>(store: S) -> Result<MeterCore<S>, Fault>
+fn opened<S: ImageStore + Drop>(store: S) -> Result<MeterCore<S>, StoreFileError>
     ensures opened { IfOk result (λ meter. Opens (S.known store) meter) }
     ensures begins { IfOk result (λ meter. restarted meter.meter ≡ meter.meter) }
     ensures faultless { IfOk result (λ meter. meter.faults ≡ (S.known store).faults) }
-    ensures refused { IfErr result (λ f. (error : OpenError) × (f ≡ fault_of_opening error) × (back : S)
+    ensures refused { IfErr result (λ e. (error : OpenError) × (e ≡ store_error error) × (back : S)
         × Refused (S.known store) error (S.known back)) }
 {
     match MeterCore::open_store(store) {
         Ok(meter) => Ok(meter),
-        Err((error, _store)) => Err(Fault::from(error)),
+        Err((error, _store)) => Err(StoreFileError::from(error)),
     }
 }
 
@@ -194,6 +203,7 @@ fn factory_of<F: Files<File = File>>(
 ) -> Result<Vec<u8>, NewStoreError>
     ensures default { fresh.now.factory_file ≡ None → IfOk result (λ factory. factory.items ≡ default_factory) }
     ensures bad_setup { fresh.now.factory_file ≡ None → result ≢ Err NewStoreError.BadSetup }
+    ensures factory_fault { fresh.now.factory_file ≡ None → result ≢ Err NewStoreError.FactoryFault }
 {
     match fresh.factory_file {
         None => Ok(Vec::from_slice(alloc, DEFAULT_FACTORY)?),

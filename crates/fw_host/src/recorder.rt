@@ -2,7 +2,7 @@
 
 ghost use Rattle.std.specs.Prelude.{◌≡◌, ◌≤◌, IfSome, IsTrue, OnErr, OnOk, false, length};
 ghost use Rattle.fw_capture.specs.View.{datagram, endpoint_of, told_of};
-ghost use Rattle.fw_host.specs.Captures.{Captures, CapturesAll, CapturesArrival, CapturesNoted, IsRecorded, count_after, stranger_count, stranger_told, turn_told, unserved_told};
+ghost use Rattle.fw_host.specs.Captures.{Captures, CapturesAll, CapturesArrival, CapturesNoted, IsRecorded, count_after, is_of_stranger, stranger_count, stranger_told, turn_told, unserved_told};
 
 use crate::capture_file::{now, put_record};
 use crate::strangers::Strangers;
@@ -128,7 +128,7 @@ impl<'a, C: Clock, S: SyncedSink + Drop> Recorder<'a, C, S> {
     }
 
     /// Puts the note of the turn of this meter that follows where nothing came, or a stranger's datagram did, and it isn't waited.
-    fn put_turn(&mut self, patience: Patience) -> Result<(), Closed>
+    pub(crate) fn put_turn(&mut self, patience: Patience) -> Result<(), Closed>
         ensures put { OnOk result (CapturesAll S.takes self.old.strangers.now.count self.old.sink self.new.sink
             (turn_told self.old.has_turns self.old.at patience)) }
         ensures count { OnOk result (self.new.strangers.now
@@ -141,6 +141,16 @@ impl<'a, C: Clock, S: SyncedSink + Drop> Recorder<'a, C, S> {
             self.put(Content::Note(Note::TurnAt(port)))
         } else {
             Ok(())
+        }
+    }
+
+    /// Whether what came is a stranger's.
+    pub(crate) fn is_of_stranger(&self, came: Option<Arrival>) -> bool
+        ensures { result ≡ is_of_stranger self.now.strangers.now.known came }
+    {
+        match came {
+            Some(arrival) => self.strangers.has(arrival.from),
+            None => false,
         }
     }
 

@@ -4,6 +4,7 @@ ghost use Rattle.std.specs.Prelude.{◌≡◌, ℕ, List, IfErr, IfOk};
 ghost use Rattle.fw_key_files.specs.Refusals.{IsOfReading};
 ghost use Rattle.fw_keys.specs.declared.error.BadLine.{BadLine as Why};
 ghost use Rattle.fw_keys.specs.Refusals.{NoHeadKeys, NoMeterKeys};
+ghost use Rattle.fw_host.specs.Errors.{key_file_error};
 ghost use Rattle.fw_host.specs.Sealings.{
   AreLinksOf,
   HasHeadLinks,
@@ -11,13 +12,12 @@ ghost use Rattle.fw_host.specs.Sealings.{
   IsFirstWithout,
   IsListedAt,
   IsNamed,
-  IsOfHeadKeys,
-  IsOfMeterKeys,
   LacksKey,
   Shows,
   fault_of_key_file,
 };
 
+use crate::error::{HeadKeysError, MeterKeysError};
 use fw_counter::KeptCounters;
 use fw_disk::Because;
 use fw_faults::Fault;
@@ -69,19 +69,19 @@ pub fn head_links<F: Files<File = File>>(
     options: &SealingOptions<'_>,
     head: HeadId,
     list: &[Listed],
-) -> Result<Links, Because<Fault>>
+) -> Result<Links, Because<HeadKeysError>>
     ensures links { IfOk result (HasHeadLinks options.now.order head list.now) }
-    ensures no_key { IfErr result (λ b. (meter : ℕ) → b.error ≡ Fault.NoKey meter → LacksKey head list.now meter) }
-    ensures bad { IfErr result (λ b. (line : ℕ) (why : Why) → b.error ≡ Fault.BadKeys line why → (text : List ℕ) × NoHeadKeys text head line why) }
-    ensures faults { IfErr result (λ b. IsOfHeadKeys b.error) }
+    ensures no_key { IfErr result (λ b. (meter : ℕ) → b.error ≡ HeadKeysError.NoKey meter → LacksKey head list.now meter) }
+    ensures bad { IfErr result (λ b. (line : ℕ) (why : Why) → b.error ≡ HeadKeysError.BadKeys line why
+        → (text : List ℕ) × NoHeadKeys text head line why) }
 {
     let file = match head_keys(rt, alloc, options.keys, head) {
         Ok(file) => file,
-        Err(because) => return Err(not_read(because)),
+        Err(because) => return Err(not_read_by_head(because)),
     };
     match links_with_meters(alloc, &file, options.order, list) {
         Ok(links) => Ok(links),
-        Err(fault) => Err(Because::from(fault)),
+        Err(error) => Err(Because::from(error)),
     }
 }
 
@@ -96,10 +96,10 @@ pub fn meter_links<F: Files<File = File>>(
     alloc: Global,
     options: &SealingOptions<'_>,
     own: SocketAddr,
-) -> Result<Links, Because<Fault>>
+) -> Result<Links, Because<MeterKeysError>>
     ensures links { IfOk result (HasMeterLinks own options.now.order) }
-    ensures bad { IfErr result (λ b. (line : ℕ) (why : Why) → b.error ≡ Fault.BadKeys line why → (text : List ℕ) × NoMeterKeys text line why) }
-    ensures faults { IfErr result (λ b. IsOfMeterKeys b.error) }
+    ensures bad { IfErr result (λ b. (line : ℕ) (why : Why) → b.error ≡ MeterKeysError.BadKeys line why
+        → (text : List ℕ) × NoMeterKeys text line why) }
 {
     let file = match meter_keys(rt, alloc, options.keys) {
         Ok(file) => file,
@@ -107,7 +107,7 @@ pub fn meter_links<F: Files<File = File>>(
     };
     match links_with_heads(alloc, own, &file, options.order) {
         Ok(links) => Ok(links),
-        Err(_) => Err(Because::from(Fault::OutOfMemory)),
+        Err(_) => Err(Because::from(MeterKeysError::OutOfMemory)),
     }
 }
 
@@ -117,16 +117,15 @@ fn links_with_meters(
     file: &KeyFile<MeterId>,
     order: Order,
     list: &[Listed],
-) -> Result<Links, Fault>
+) -> Result<Links, HeadKeysError>
     ensures links { IfOk result (AreLinksOf order file.now (IsListedAt list.now)) }
-    ensures no_key { IfErr result (λ f. (meter : ℕ) → f ≡ Fault.NoKey meter → IsFirstWithout file.now list.now meter) }
-    ensures no_line { IfErr result (λ f. (line : ℕ) (why : Why) → ¬ (f ≡ Fault.BadKeys line why)) }
-    ensures faults { IfErr result IsOfHeadKeys }
+    ensures no_key { IfErr result (λ e. (meter : ℕ) → e ≡ HeadKeysError.NoKey meter → IsFirstWithout file.now list.now meter) }
+    ensures no_line { IfErr result (λ e. (line : ℕ) (why : Why) → ¬ (e ≡ HeadKeysError.BadKeys line why)) }
 {
     let mut links = Links::new(alloc, order);
     for at in list {
         let Some(link) = file.link_with(&at.meter) else {
-            return Err(Fault::NoKey(at.meter.number()));
+            return Err(HeadKeysError::NoKey(at.meter.number()));
         };
         links.add(at.address, link)?;
     }
@@ -167,16 +166,45 @@ fn shown_to(own: SocketAddr, end: SocketAddr) -> SocketAddr
     }
 }
 
-/// The fault that the refusal of a key file is, with its reason.
-fn not_read(because: Because<KeyFileError>) -> Because<Fault>
+/// What the refusal of a key file is to a meter, with its reason.
+fn not_read(because: Because<KeyFileError>) -> Because<MeterKeysError>
     requires { IsOfReading because.error }
-    ensures error { result.error ≡ fault_of_key_file because.error }
+    ensures error { because.error ≡ key_file_error result.error }
     ensures reason { result.reason ≡ because.reason }
-    ensures of_meter { IsOfMeterKeys result.error }
-    ensures of_head { IsOfHeadKeys result.error }
 {
+    let error = match because.error {
+        KeyFileError::KeysFault => MeterKeysError::KeysFault,
+        KeyFileError::KeysReadable => MeterKeysError::KeysReadable,
+        KeyFileError::BadKeys(line, why) => MeterKeysError::BadKeys(line, why),
+        KeyFileError::OutOfMemory => MeterKeysError::OutOfMemory,
+        // No key is made.
+        KeyFileError::NoRandomness => unreachable!(),
+    };
     Because {
-        error: fault_of_key_file(because.error),
+        error,
+        reason: because.reason,
+    }
+}
+
+/// And to a head end.
+fn not_read_by_head(because: Because<KeyFileError>) -> Because<HeadKeysError>
+    requires { IsOfReading because.error }
+    ensures fault { result.error ≡ HeadKeysError.KeysFault → because.error ≡ KeyFileError.KeysFault }
+    ensures readable { result.error ≡ HeadKeysError.KeysReadable → because.error ≡ KeyFileError.KeysReadable }
+    ensures memory { result.error ≡ HeadKeysError.OutOfMemory → because.error ≡ KeyFileError.OutOfMemory }
+    ensures bad { (line : ℕ) (why : Why) → result.error ≡ HeadKeysError.BadKeys line why → because.error ≡ KeyFileError.BadKeys line why }
+    ensures no_key { (meter : ℕ) → ¬ (result.error ≡ HeadKeysError.NoKey meter) }
+    ensures reason { result.reason ≡ because.reason }
+{
+    let error = match because.error {
+        KeyFileError::KeysFault => HeadKeysError::KeysFault,
+        KeyFileError::KeysReadable => HeadKeysError::KeysReadable,
+        KeyFileError::BadKeys(line, why) => HeadKeysError::BadKeys(line, why),
+        KeyFileError::OutOfMemory => HeadKeysError::OutOfMemory,
+        KeyFileError::NoRandomness => unreachable!(),
+    };
+    Because {
+        error,
         reason: because.reason,
     }
 }

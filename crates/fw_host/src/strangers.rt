@@ -1,6 +1,6 @@
 //! Strangers of a daemon, whose datagrams its capture counts.
 
-ghost use Rattle.std.specs.Prelude.{◌≡◌, IfOk, None, not};
+ghost use Rattle.std.specs.Prelude.{◌≡◌, IfOk, IsSome, None, not};
 ghost use Rattle.fw_daemon.specs.Daemon.{one_more};
 ghost use Rattle.fw_host.specs.Strangers.{AreAddresses, AreAddressesOf, is_among, is_listed_at, is_stranger, is_strange};
 
@@ -45,6 +45,7 @@ impl Strangers {
     ) -> Result<Strangers, AllocError>
         ensures known { IfOk result (λ s. (address : SocketAddr) → is_stranger s.known address ≡ is_strange heads.now address) }
         ensures recorded { IfOk result (λ s. s.count ≡ 0) }
+        ensures option { IfOk result (λ s. IsSome s.known → s.are_recorded ≡ are_recorded) }
     {
         if heads.is_empty() {
             return Ok(Strangers::none());
@@ -68,6 +69,7 @@ impl Strangers {
     ) -> Result<Strangers, AllocError>
         ensures known { IfOk result (λ s. (address : SocketAddr) → is_stranger s.known address ≡ not (is_listed_at list.now address)) }
         ensures recorded { IfOk result (λ s. s.count ≡ 0) }
+        ensures option { IfOk result (λ s. s.are_recorded ≡ are_recorded) }
     {
         Ok(Strangers {
             known: Some(addresses_of(alloc, list)?),

@@ -2,6 +2,7 @@
 use Rattle.std.proofs.Common.{ℕ, ◌-◌, ◌^◌, ◌≤◌, ◌<◌, List, length, replicate, refl, sym, ap, inl, arith}
 use Rattle.std.proofs.Math.Seq.{take-append_seam}
 use Rattle.sha2.proofs.Facts256.{length-sha256}
+use Rattle.fw_blocks.specs.Cuts.{max_image}
 use Rattle.fw_names.specs.Name.{factory_name, IsName}
 use Rattle.fw_store.specs.Header.{fresh_header}
 use Rattle.fw_store.specs.Laws.{FreshIsHeader}
@@ -16,7 +17,7 @@ with_bytes m bytes = record m { running = record m.running { bytes = bytes } }
 pub fresh_is_meter : FreshIsHeader → FreshIsMeter
 fresh_is_meter law version block_size capacity factory setup =
     let name : IsName (factory_name factory) = record { is_campaign = inl refl; is_release = record { fits = omega arith; none = λ made. refl }; digest_size = length-sha256 factory } in
-    let room : capacity ≤ 16777216 = setup.room.room_in_range in
+    let room : capacity ≤ max_image = setup.room.ends in
     let small : capacity < 2 ^ 32 = omega (arith, room) in (
       record {
         header = fresh_header version block_size (length factory) (factory_name factory);

@@ -9,3 +9,4 @@ mod Openings
 mod Migrating
 mod Fresh
 mod OneStep
+pub mod Sizes

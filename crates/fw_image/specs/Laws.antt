@@ -31,6 +31,15 @@ OneStep = (old new other : Meter) (operation : Operation) (a b : OperationOutcom
 abbrev pub OneTurn : Type 0
 OneTurn = (old new other : Meter) → Turn true old true new → Turn true old true other → new ≡ other
 
+-- over an honest store, whatever a meter does leaves it its capacity
+abbrev pub StepKeepsSize : Type 0
+StepKeepsSize = (old new : Meter) (operation : Operation) (outcome : OperationOutcome) → Step true old operation outcome new
+    → new.capacity ≡ old.capacity
+
+-- and so does a turn
+abbrev pub TurnKeepsSize : Type 0
+TurnKeepsSize = (old new : Meter) → Turn true old true new → new.capacity ≡ old.capacity
+
 -- the blocks of an image of `size` bytes, each of its length, have `size` bytes together
 abbrev pub JoinedSize : Type 0
 JoinedSize = (block_size size : ℕ) (cells : Cells) (bytes : List ℕ) → 1 ≤ block_size → CellsFit block_size size cells

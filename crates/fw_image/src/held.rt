@@ -74,6 +74,7 @@ use fw_store::{
     laws as store_laws,
 };
 use fw_verify::{Digesting, digest};
+use std::alloc::{AllocError, Global};
 use std::marker::Model;
 
 /// A store, and the header that stands in it.
@@ -445,6 +446,19 @@ impl Held<MemoryStore> {
         self.store.unfuse();
     }
 
+    /// The same once more, over a store of its own.
+    pub(crate) fn copy(&self, alloc: Global) -> Result<Held<MemoryStore>, AllocError>
+        ensures { IfOk result (λ copy. copy ≡ self.now) }
+    {
+        let store = self.store.copy(alloc)?;
+        let digesting = copy_of(&self.digesting)?;
+        Ok(Held {
+            store,
+            header: self.header,
+            digesting,
+        })
+    }
+
     /// Whether the two meters are the same. Bytes of the stores that belong to no image that runs and to no block may differ.
     pub(crate) fn same(&self, other: &Held<MemoryStore>) -> bool
         ensures { IsTrue result ↔ (self.now.meter ≡ other.now.meter) }
@@ -510,6 +524,16 @@ impl Held<MemoryStore> {
         ensures { result.now ≡ self.now.meter.running.bytes }
     {
         &self.store.slot(self.header.running_slot)[..self.header.running_size as usize]
+    }
+}
+
+/// A verification that goes on, or none, once more.
+fn copy_of(digesting: &Option<Digesting>) -> Result<Option<Digesting>, AllocError>
+    ensures { IfOk result (λ copy. copy ≡ digesting.now) }
+{
+    match digesting {
+        Some(digesting) => Ok(Some(digesting.copy()?)),
+        None => Ok(None),
     }
 }
 

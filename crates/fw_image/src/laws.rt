@@ -1,6 +1,6 @@
 //! Laws of meters in stores, over the definitions alone. A caller cites a law by calling it: nothing is done.
 
-ghost use Rattle.fw_image.specs.Laws.{OneMeter, FreshIsMeter, OneStep, OneTurn, JoinedSize};
+ghost use Rattle.fw_image.specs.Laws.{OneMeter, FreshIsMeter, OneStep, OneTurn, StepKeepsSize, TurnKeepsSize, JoinedSize};
 
 /// What a store holds is one meter at most.
 pub fn one_meter()
@@ -24,6 +24,16 @@ pub fn one_step()
 /// And a meter determines what a turn makes of it.
 pub fn one_turn()
     ensures { OneTurn }
+{}
+
+/// Over an honest store, whatever a meter does leaves it its capacity.
+pub fn step_keeps_size()
+    ensures { StepKeepsSize }
+{}
+
+/// And so does a turn.
+pub fn turn_keeps_size()
+    ensures { TurnKeepsSize }
 {}
 
 /// The blocks of an image, each of its length, have its size together.

@@ -40,6 +40,7 @@ use crate::view::MeterView;
 use fw_blocks::Pages;
 use fw_names::ImageName;
 use fw_store::{Goal, ImageStore, MemoryStore, StoreFault};
+use std::alloc::{AllocError, Global};
 
 /// A transfer in one of its statuses. What all of them can do can be asked of it as well.
 #[derive(Drop)]
@@ -349,6 +350,18 @@ impl Phase<MemoryStore> {
             Phase::Spoilt(transfer) => transfer.unfuse(),
             Phase::Switched(transfer) => transfer.unfuse(),
         }
+    }
+
+    /// The same transfer once more, over a store of its own.
+    ///
+    /// # Errors
+    ///
+    /// `AllocError` if memory was refused.
+    pub fn copy(&self, alloc: Global) -> Result<Self, AllocError>
+        ensures state { IfOk result (λ copy. state_in copy ≡ state_in self.now) }
+        ensures phase { IfOk result IsInPhase }
+    {
+        Ok(Phase::of(self.held().copy(alloc)?))
     }
 
     /// Whether the two meters are the same: in block size, capacity and the most blocks that an image may have, in what runs with its

@@ -3,9 +3,10 @@ use Rattle.std.proofs.Common.{◌≡◌, ◌⊎◌, inl, ⊎_elim, ℕ, ◌+◌,
 use Rattle.std.specs.Int.{w32, to_be_bytes}
 use Rattle.std.specs.Option.{option_and_then, option_map_or}
 use Rattle.std.specs.declared.alloc.Global.{Global}
+use Rattle.fw_blocks.specs.Cuts.{max_image}
 use Rattle.fw_names.specs.Name.{Campaign, campaign_bytes}
 use Rattle.fw_wrapper.specs.Refusals.{first_applying}
-use Rattle.fw_book.specs.Contents.{Offered, Contents, offered_in, state_in}
+use Rattle.fw_book.specs.Contents.{Offered, Contents, max_meters, offered_in, state_in}
 use Rattle.fw_book.specs.Changes.{empty_book, mark_refusal, cancel_refusal}
 use Rattle.fw_book.specs.Rows.{state_of, meters_of, is_live, has_live}
 use Rattle.fw_book.specs.declared.row.RowState.{RowState}
@@ -100,7 +101,7 @@ length-earlier serial image =
     let four : length (to_be_bytes w32 serial) ≡ 4 = refl in
     omega (arith, four)
 
-pub opening_short : (campaign : Campaign) (release : ℕ) (source : Source) (image meters : List ℕ) → length (source_bytes source) ≤ length image + 5 → length image ≤ 16777216 → length meters ≤ 256
+pub opening_short : (campaign : Campaign) (release : ℕ) (source : Source) (image meters : List ℕ) → length (source_bytes source) ≤ length image + 5 → length image ≤ max_image → length meters ≤ max_meters
     → length (entry_bytes (opening campaign release source meters)) < 2 ^ 32
 opening_short campaign release source image meters short image_ends meters_end =
     let eight : length (campaign_bytes campaign) ≡ 8 = refl in

@@ -1,5 +1,5 @@
 -- What bytes are read as, whoever's they are.
-use Rattle.std.proofs.Common.{◌≡◌, ◌≢◌, ⊎_elim, ℕ, List, [], ◌∷◌, ◌++◌, Option, Some, None, IsSome, Bool, true, false, cond, eqb, Result, Ok, Err, IfErr, IsErrOf, Vec, length, arith, refl, sym, ap, subst, ◌∙◌, append_assoc}
+use Rattle.std.proofs.Common.{◌≡◌, ◌≢◌, ⊎_elim, ℕ, List, [], ◌∷◌, ◌++◌, Option, Some, None, IsSome, Bool, true, false, cond, eqb, Err, IsErrOf, Vec, length, arith, refl, sym, ap, subst, ◌∙◌, append_assoc}
 use Rattle.std.specs.declared.alloc.Global.{Global}
 use Rattle.std.proofs.lemmas.Bool.{cases_eq}
 use Rattle.fw_names.specs.Name.{Campaign, IsOpened}
@@ -9,23 +9,21 @@ use Rattle.fw_book.specs.Laws.{AdmittedOpens}
 use Rattle.fw_book.specs.declared.error.BookError.TheVariants.{NoSuchCampaign}
 use Rattle.fw_journal.specs.Book.{contents_of, mark as journal_mark, body, blocks, Stands, HasRecord}
 use Rattle.fw_journal.specs.Laws.{OneReading}
-use Rattle.fw_journal.specs.Refusals.{IsOpeningRefusal}
-use Rattle.fw_journal.specs.declared.error.JournalError.{JournalError}
-use Rattle.fw_journal.specs.declared.error.JournalError.TheVariants as refusal
 use Rattle.fw_ledger.specs.Entry.{Entry, opening, mark, cancelling, endings, note, Spells, NoRecord}
+use Rattle.fw_ledger.specs.declared.error.ReplayError.{ReplayError}
+use Rattle.fw_ledger.specs.declared.error.ReplayError.TheVariants as replay
 use Rattle.fw_ledger.specs.declared.record.Note.{Note}
 use Rattle.fw_ledger.specs.declared.record.Note.TheVariants.{Opened, Ended}
 use Rattle.fw_ledger.specs.Noted.{AreNotesOf}
 use Rattle.fw_book.specs.Notes.{Known}
-use Rattle.fw_ledger.specs.Replay.{Makes, IsBookOf, records_of}
+use Rattle.fw_ledger.specs.Replay.{Makes, IsBookOf, FailsAt, records_of}
 use Rattle.fw_ledger.specs.Laws.{OneRecord, FailedHaveNone}
 use Rattle.fw_kept.specs.Kept.{HasNotes, HasBadRecord, IsForeign, IsReadAs, campaign_of}
 use Rattle.fw_book.specs.declared.row.RowState.{RowState}
-use Rattle.fw_kept.specs.Private.{AreReadAs, IsBadAt, IsReadingRefusal, IsRecordsRefusal}
+use Rattle.fw_kept.specs.Private.{AreReadAs, IsBadAt, IsReadingRefusal}
 use Rattle.fw_kept.specs.Laws.{ForeignHaveNone, BadRecordsHaveNone}
-use Rattle.fw_kept.specs.Refusals.{open_error}
-use Rattle.fw_kept.specs.declared.error.OpenError.{OpenError}
-use Rattle.fw_kept.specs.declared.error.OpenError.TheVariants.{BadBook, BadRecord, ForeignHead, BookFault, OutOfMemory}
+use Rattle.fw_kept.specs.declared.error.ReadingError.{ReadingError}
+use Rattle.fw_kept.specs.declared.error.ReadingError.TheVariants as reading
 use Rattle.fw_kept.proofs.Books.{same_lists, book_head, state_none, mark_none, cancel_none, some_none}
 
 -- ---- the head end of a first record
@@ -138,12 +136,11 @@ bad_first head records rest first is none = record {
 
 -- ---- what a reading answers
 
-pub reading_refused : (head : ℕ) (records : List (List ℕ)) (e : OpenError) → IsRecordsRefusal head records e → ¬ IsForeign head records → records ≢ [] → IsReadingRefusal records e
-reading_refused head records (BadBook offset) is own some = absurd is
-reading_refused head records (BadRecord index) is own some = (head, is)
-reading_refused head records ForeignHead is own some = absurd (own is)
-reading_refused head records BookFault is own some = absurd is
-reading_refused head records OutOfMemory is own some = some
+pub reading_refused : (head : ℕ) (records : List (List ℕ)) (e : ReplayError) → ((index : ℕ) → e ≡ replay.BadRecord index → (bytes : List ℕ) × FailsAt head records index bytes) → ¬ IsForeign head records → records ≢ [] → IsReadingRefusal records e
+reading_refused head records (replay.BadRecord index) bad own some =
+    let at = bad index refl in
+    (head, record { bad = at.0; fails = at.1; own = own })
+reading_refused head records replay.OutOfMemory bad own some = some
 
 pub books_read : (head : ℕ) (records : List (List ℕ)) (book : Contents) → IsBookOf head records book → records ≢ [] → AreReadAs records (Some book)
 books_read head records book is some = (subst (λ (n : ℕ). IsBookOf n records book) (sym (book_head head records book is)) is, some)
@@ -167,60 +164,16 @@ first_stands bytes (x ∷ xs) stands some = record {
   split = stands.split ∙ ap (λ (l : List ℕ). journal_mark ++ 1 ∷ l) (append_assoc (body x) (blocks xs) stands.end);
 }
 
-err_has : {T : Type 0} (r : Result T OpenError) (P : OpenError → Type 0) (e : OpenError) → IfErr r P → IsErrOf r e → P e
-err_has {T} r P e holds is = subst (λ (x : Result T OpenError). IfErr x P) is holds
-
-pub records_bad : {T : Type 0} (bytes : List ℕ) (vs : List (Vec ℕ Global)) (r : Result T OpenError) (index : ℕ) → Stands bytes (contents_of vs) → IfErr r (IsReadingRefusal (records_of vs)) → IsErrOf r (BadRecord index) → (head : ℕ) × HasBadRecord head bytes index
-records_bad bytes vs r index stands refused is =
-    let bad = err_has r (IsReadingRefusal (records_of vs)) (BadRecord index) refused is in
+pub records_bad : (bytes : List ℕ) (vs : List (Vec ℕ Global)) (index : ℕ) → Stands bytes (contents_of vs) → IsReadingRefusal (records_of vs) (replay.BadRecord index) → (head : ℕ) × HasBadRecord head bytes index
+records_bad bytes vs index stands bad =
     (bad.0, record { records = records_of vs; stands = subst (λ (l : List (List ℕ)). Stands bytes l) (same_lists vs) stands; bad = bad.1.bad; fails = bad.1.fails; own = bad.1.own })
 
-pub records_memory : {T : Type 0} (bytes : List ℕ) (vs : List (Vec ℕ Global)) (r : Result T OpenError) → Stands bytes (contents_of vs) → IfErr r (IsReadingRefusal (records_of vs)) → IsErrOf r OutOfMemory → HasRecord bytes
-records_memory bytes vs r stands refused is =
-    first_stands bytes (records_of vs) (subst (λ (l : List (List ℕ)). Stands bytes l) (same_lists vs) stands) (err_has r (IsReadingRefusal (records_of vs)) OutOfMemory refused is)
+pub records_memory : (bytes : List ℕ) (vs : List (Vec ℕ Global)) → Stands bytes (contents_of vs) → IsReadingRefusal (records_of vs) replay.OutOfMemory → HasRecord bytes
+records_memory bytes vs stands some =
+    first_stands bytes (records_of vs) (subst (λ (l : List (List ℕ)). Stands bytes l) (same_lists vs) stands) some
 
-pub records_offset : {T : Type 0} (records : List (List ℕ)) (r : Result T OpenError) (offset : ℕ) → IfErr r (IsReadingRefusal records) → IsErrOf r (BadBook offset) → ⊥
-records_offset records r offset refused is = err_has r (IsReadingRefusal records) (BadBook offset) refused is
+pub same_index : {T : Type 0} (a b : ℕ) → IsErrOf {T = T} (Err (reading.BadRecord a)) (reading.BadRecord b) → a ≡ b
+same_index a b is = cc is
 
--- neither another head end's nor a fault
-abbrev pub IsPlain : OpenError → Type 0
-IsPlain e = (e ≢ ForeignHead) × (e ≢ BookFault)
-
-plain_of : (records : List (List ℕ)) (e : OpenError) → IsReadingRefusal records e → IsPlain e
-plain_of records e refused = (λ is. subst (λ (x : OpenError). IsReadingRefusal records x) is refused, λ is. subst (λ (x : OpenError). IsReadingRefusal records x) is refused)
-
-pub records_plain : {T : Type 0} (records : List (List ℕ)) (r : Result T OpenError) → IfErr r (IsReadingRefusal records) → IfErr r IsPlain
-records_plain records (Ok x) refused = tt
-records_plain records (Err e) refused = plain_of records e refused
-
--- ---- what a refusal of the journal's bytes is
-
-pub open_is : {T : Type 0} (a b : OpenError) → IsErrOf {T = T} (Err a) b → a ≡ b
-open_is a b is = cc is
-
-pub memory_of : (r : JournalError) → open_error r ≡ OutOfMemory → r ≡ refusal.OutOfMemory
-memory_of (refusal.BadBook offset) is = absurd (cc is)
-memory_of refusal.NotEmpty is = absurd (cc is)
-memory_of refusal.TooLong is = absurd (cc is)
-memory_of refusal.Full is = absurd (cc is)
-memory_of refusal.Locked is = absurd (cc is)
-memory_of refusal.BookFault is = absurd (cc is)
-memory_of refusal.OutOfMemory is = refl
-
-pub no_record_of : (r : JournalError) (index : ℕ) → open_error r ≡ BadRecord index → ⊥
-no_record_of (refusal.BadBook offset) index is = cc is
-no_record_of refusal.NotEmpty index is = cc is
-no_record_of refusal.TooLong index is = cc is
-no_record_of refusal.Full index is = cc is
-no_record_of refusal.Locked index is = cc is
-no_record_of refusal.BookFault index is = cc is
-no_record_of refusal.OutOfMemory index is = cc is
-
-pub plain_open : (r : JournalError) → IsOpeningRefusal r → r ≢ refusal.BookFault → IsPlain (open_error r)
-plain_open (refusal.BadBook offset) is works = (λ e. cc e, λ e. cc e)
-plain_open refusal.NotEmpty is works = absurd is
-plain_open refusal.TooLong is works = absurd is
-plain_open refusal.Full is works = absurd is
-plain_open refusal.Locked is works = absurd is
-plain_open refusal.BookFault is works = absurd (works refl)
-plain_open refusal.OutOfMemory is works = (λ e. cc e, λ e. cc e)
+pub read_is : {T : Type 0} (a b : ReadingError) → IsErrOf {T = T} (Err a) b → a ≡ b
+read_is a b is = cc is

@@ -10,6 +10,8 @@ use Rattle.fw_journal.specs.declared.device.JournalDevice
 use Rattle.fw_journal.specs.declared.journal.Journal.{Journal}
 use Rattle.fw_ledger.specs.Entry.{Entry, mark, HasSpelling, entry_bytes}
 use Rattle.fw_ledger.specs.Replay.{Makes, IsBookOf, FailsAt}
+use Rattle.fw_ledger.specs.declared.error.ReplayError.{ReplayError}
+use Rattle.fw_ledger.specs.declared.error.ReplayError.TheVariants as replay
 use Rattle.fw_ledger.specs.declared.record.Ending.TheVariants as ending
 use Rattle.fw_kept.specs.declared.error.OpenError.{OpenError}
 use Rattle.fw_kept.specs.declared.error.OpenError.TheVariants.{BadBook, BadRecord, ForeignHead, BookFault, OutOfMemory}
@@ -35,12 +37,9 @@ AreReadAs records None = records ≡ []
 AreReadAs records (Some book) = IsBookOf book.head records book × (records ≢ [])
 
 -- what they are refused for then
-abbrev pub IsReadingRefusal : List (List ℕ) → OpenError → Type 0
-IsReadingRefusal records (BadBook offset) = ⊥
-IsReadingRefusal records (BadRecord index) = (head : ℕ) × IsBadAt head records index
-IsReadingRefusal records ForeignHead = ⊥
-IsReadingRefusal records BookFault = ⊥
-IsReadingRefusal records OutOfMemory = records ≢ []
+abbrev pub IsReadingRefusal : List (List ℕ) → ReplayError → Type 0
+IsReadingRefusal records (replay.BadRecord index) = (head : ℕ) × IsBadAt head records index
+IsReadingRefusal records replay.OutOfMemory = records ≢ []
 
 -- the record has a spelling, of fewer than 2^32 bytes
 pub record CanBeKept (entry : Entry) : Type 0 where

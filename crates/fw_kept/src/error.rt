@@ -1,4 +1,4 @@
-//! Why a kept head end isn't opened, or refuses a call.
+//! Why a kept head end isn't opened, why bytes hold no book, or why a call is refused.
 
 ghost use Rattle.std.specs.Prelude.{◌≡◌};
 ghost use Rattle.fw_kept.specs.declared.error.KeptError.TheVariants.{Refused};
@@ -30,6 +30,27 @@ impl fmt::Display for OpenError {
             OpenError::BadBook { offset } => write!(f, "BadBook {offset}"),
             OpenError::BadRecord { index } => write!(f, "BadRecord {index}"),
             other => fmt::Debug::fmt(other, f),
+        }
+    }
+}
+
+/// Why bytes hold no book of any head end.
+#[derive(Clone, Copy, Debug, Error)]
+pub enum ReadingError {
+    /// The bytes from this offset on are no journal's.
+    BadBook { offset: u64 },
+    /// The record with this index, counted from 0, has no place in the book of those before it.
+    BadRecord { index: usize },
+    /// Memory was refused.
+    OutOfMemory,
+}
+
+impl fmt::Display for ReadingError {
+    fn fmt<W: fmt::Write>(&self, f: &mut fmt::Formatter<W>) -> fmt::Result {
+        match self {
+            ReadingError::BadBook { offset } => write!(f, "BadBook {offset}"),
+            ReadingError::BadRecord { index } => write!(f, "BadRecord {index}"),
+            ReadingError::OutOfMemory => f.write_str("OutOfMemory"),
         }
     }
 }

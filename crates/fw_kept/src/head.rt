@@ -23,6 +23,7 @@ ghost use Rattle.std.specs.Prelude.{
   IsTrue,
   MatchOption,
 };
+ghost use Rattle.fw_blocks.specs.Width.{max_width};
 ghost use Rattle.fw_names.specs.Name.{Campaign, IsOpened, name_of};
 ghost use Rattle.fw_book.specs.Contents.{Contents};
 ghost use Rattle.fw_book.specs.Changes.{empty_book, opened, cancelled, opening_refusal, cancel_refusal};
@@ -449,7 +450,7 @@ impl<D: JournalDevice> KeptHead<D> {
         ensures book { book_of self.new ≡ book_of self.old }
         ensures known { known_of self.new ≡ known_of self.old }
         ensures backed { IsBacked D.may_leave self.old → IsBacked D.may_leave self.new }
-        ensures most { IfOk result (λ sent. length sent.items ≤ 15) }
+        ensures most { IfOk result (λ sent. length sent.items ≤ max_width) }
         ensures ticked { OnOk result (head_of self.new ≡ ticked_head (head_of self.old) meter) }
         ensures same { OnErr result (self.new ≡ self.old) }
         ensures memory { OnErr result (IsSomeAnd (row_of (head_of self.old).rows meter) (λ row. IsLive row.stage)) }

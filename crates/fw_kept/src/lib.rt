@@ -10,6 +10,6 @@ mod opening;
 mod putting;
 mod reading;
 
-pub use error::{KeptError, OpenError};
+pub use error::{KeptError, OpenError, ReadingError};
 pub use head::KeptHead;
 pub use reading::read_kept;

@@ -18,4 +18,4 @@ pub use new_file::NewFile;
 pub use owner::Owner;
 pub use randomness::{Randomness, SystemRandomness};
 pub use reading::{head_keys, meter_keys};
-pub use system::make_files;
+pub use system::{OWNER_ALONE, make_files};

@@ -22,7 +22,7 @@ use std::os::unix::fs::{MetadataExt, OpenOptionsExt};
 use std::rt::Files;
 
 /// The permission bits of a file that its owner alone may read and write.
-const OWNER_ALONE: u32 = 0o600;
+pub const OWNER_ALONE: u32 = 0o600;
 
 /// The permission bits of all others: of the group, and of who isn't in it.
 const OTHERS: u32 = 0o077;
@@ -31,7 +31,7 @@ const OTHERS: u32 = 0o077;
 const CHUNK: usize = 4096;
 
 /// The most times that a file is asked: as often as 64 MiB take, and once more for the end.
-const MAX_READS: u32 = 16_385;
+const MAX_READS: u32 = (64 * 1024 * 1024 / CHUNK) as u32 + 1;
 
 /// The fault of a call of the system.
 fn fault(cause: Cause) -> Because<KeyFileError>

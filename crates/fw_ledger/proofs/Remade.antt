@@ -8,6 +8,7 @@ use Rattle.std.proofs.lemmas.Bool.Decides.{Decides-eqb}
 use Rattle.std.proofs.lemmas.List.{length-map, append-nil}
 use Rattle.std.specs.Int.{w32, to_be_bytes}
 use Rattle.std.specs.declared.alloc.Global.{Global}
+use Rattle.fw_blocks.specs.Cuts.{max_image}
 use Rattle.fw_names.specs.Name.{Campaign, campaign_bytes}
 use Rattle.fw_wrapper.specs.Refusals.{first_applying}
 use Rattle.fw_book.specs.declared.row.Row.{Row}
@@ -15,7 +16,7 @@ use Rattle.fw_book.specs.declared.row.RowState.{RowState}
 use Rattle.fw_book.specs.declared.row.RowState.TheVariants.{Live, Done, Failed, Cancelled}
 use Rattle.fw_book.specs.declared.error.BookError.TheVariants.{NoSuchCampaign, NotLive}
 use Rattle.fw_book.specs.Rows.{is_live, live_row, meters_of, repeats, state_of, is_live_in, has_live, marked_row, with_state, cancelled_row, cancelled_rows}
-use Rattle.fw_book.specs.Contents.{Offered, Contents, offered_in, state_in, is_busy, IsBook}
+use Rattle.fw_book.specs.Contents.{Offered, Contents, max_meters, offered_in, state_in, is_busy, IsBook}
 use Rattle.fw_book.specs.Changes.{empty_book, at_serial, opened, cancelled, mark_refusal, Opens}
 use Rattle.fw_book.specs.Private.{Admits}
 use Rattle.fw_book.specs.Laws.{AdmittedOpens}
@@ -539,7 +540,7 @@ abbrev pub IsSmall : Entry → Type 0
 IsSmall (opening campaign release source meters) = ⊥
 IsSmall (mark campaign meter e) = Unit {0}
 IsSmall (cancelling campaign) = Unit {0}
-IsSmall (endings campaign numbers) = length numbers ≤ 256
+IsSmall (endings campaign numbers) = length numbers ≤ max_meters
 IsSmall (note campaign told) = Unit {0}
 
 small_short : (bytes : List ℕ) (entry : Entry) → Spells bytes entry → IsSmall entry → IsShort bytes
@@ -566,7 +567,7 @@ pub all_append : {X : Type 0} (P : X → Type 0) (xs ys : List X) → AllByRecur
 all_append P [] ys first second = second
 all_append P (x ∷ xs) ys first second = (first.0, all_append P xs ys first.1 second)
 
-small_rows : (campaign : Campaign) (rows : List Row) → length rows ≤ 256 → AllByRecursion IsSmall (rows_entries campaign rows)
+small_rows : (campaign : Campaign) (rows : List Row) → length rows ≤ max_meters → AllByRecursion IsSmall (rows_entries campaign rows)
 small_rows campaign rows few =
     let many : length (numbers_of rows) ≡ length rows = length-map rows (λ (row : Row). state_number row.state) in
     cond_both (list_any (λ number. nat_lt 0 number) (numbers_of rows)) (endings campaign (numbers_of rows) ∷ []) [] (λ (l : List Entry). AllByRecursion IsSmall l) (λ _. (omega (arith, many, few), tt)) (λ _. tt)
@@ -588,7 +589,7 @@ source_short book (earlier serial) image is =
     let four : length (to_be_bytes w32 serial) ≡ 4 = refl in
     omega (arith, four)
 
-opening_short : (campaign : Campaign) (release : ℕ) (source : Source) (image meters : List ℕ) → length (source_bytes source) ≤ length image + 5 → length image ≤ 16777216 → length meters ≤ 256
+opening_short : (campaign : Campaign) (release : ℕ) (source : Source) (image meters : List ℕ) → length (source_bytes source) ≤ length image + 5 → length image ≤ max_image → length meters ≤ max_meters
     → length (entry_bytes (opening campaign release source meters)) < 2 ^ 32
 opening_short campaign release source image meters short image_ends meters_end =
     let eight : length (campaign_bytes campaign) ≡ 8 = refl in
@@ -606,7 +607,7 @@ opening_short campaign release source image meters short image_ends meters_end =
       length-append (to_be_bytes w32 release) (source_bytes source),
     )
 
-campaign_short : (book : Contents) (campaign : Campaign) (offer : Offered) (source : Source) → IsImage book source offer.image → length offer.image ≤ 16777216 → length offer.rows ≤ 256
+campaign_short : (book : Contents) (campaign : Campaign) (offer : Offered) (source : Source) → IsImage book source offer.image → length offer.image ≤ max_image → length offer.rows ≤ max_meters
     → (records : List (List ℕ)) → SpellAll records (campaign_entries campaign offer source) → AllByRecursion IsShort records
 campaign_short book campaign offer source image image_ends rows_end [] spell = tt
 campaign_short book campaign offer source image image_ends rows_end (bytes ∷ records) spell =

@@ -7,3 +7,4 @@ mod Calling
 mod Cutting
 mod Telling
 mod Restarts
+pub mod Sizes

@@ -5,7 +5,7 @@ use Rattle.fw_axdr.specs.Spelling.{IsData, max_depth, short}
 use Rattle.fw_axdr.specs.Fault.{counted}
 use Rattle.fw_axdr.specs.declared.error.AxdrError.TheVariants.{BadLength}
 use Rattle.fw_axdr.specs.Laws as axdr
-use Rattle.fw_wrapper.specs.Wrapper.{wrapped, behind_header}
+use Rattle.fw_wrapper.specs.Wrapper.{wrapped, behind_header, wport}
 use Rattle.fw_names.specs.Name.{Name, IsName, name_bytes}
 use Rattle.fw_names.specs.Laws as names
 use Rattle.fw_apdu.specs.Request.{RequestContent, get_request, set_request, action_request, is_confirmed}
@@ -113,7 +113,7 @@ tells_running sizes shorts spellings honest old new datagram reply bytes activat
 tells_running sizes shorts spellings honest old new datagram reply bytes activated named (inl h) told size =
     let result : MeterResult = h.responds.result in
     let written : List ℕ = response_bytes h.invoke (response_of (outcome_in h.content result)) in
-    let sent : reply ≡ wrapped 1 h.source written = is_written (is_confirmed h.invoke) reply (wrapped 1 h.source written) h.responds.replies in
+    let sent : reply ≡ wrapped wport h.source written = is_written (is_confirmed h.invoke) reply (wrapped wport h.source written) h.responds.replies in
     let same : told.apdu ≡ written = ap behind_header (sym told.wraps.bytes ∙ sent) in
     let spells : SpellsResponse written told.invoke (get_response (value (octet_string bytes))) =
     subst (λ (s : List ℕ). SpellsResponse s told.invoke (get_response (value (octet_string bytes)))) same told.spells in

@@ -2,7 +2,7 @@
 use Rattle.std.specs.Prelude.{◌≡◌, ℕ, Bool, true, IsTrue, ◌⊎◌, List, Option, Some, None, if◌then◌else◌}
 use Rattle.std.specs.Option.{option_map}
 use Rattle.std.specs.Global.{Vec}
-use Rattle.fw_wrapper.specs.Wrapper.{Wraps, wrapped}
+use Rattle.fw_wrapper.specs.Wrapper.{Wraps, wrapped, wport}
 use Rattle.fw_apdu.specs.Request.{RequestContent, get_request, set_request, action_request, SpellsRequest, MayHoldData, is_confirmed}
 use Rattle.fw_apdu.specs.Response.{response_bytes}
 use Rattle.fw_names.specs.Name.{Name}
@@ -16,7 +16,7 @@ use Rattle.fw_meter.specs.Step.{MeterResult, got, coded, tells_no_fault, MeterSt
 -- a datagram carries a request, with its invoke byte, from a source to the wPort of the meter, 1
 pub record Brings (datagram : List ℕ) (source invoke : ℕ) (content : RequestContent) : Type 0 where
   pub apdu : List ℕ
-  pub wraps : Wraps datagram source 1 apdu
+  pub wraps : Wraps datagram source wport apdu
   pub spells : SpellsRequest apdu invoke content
 
 abbrev pub BringsNothing : List ℕ → Type 0
@@ -32,7 +32,7 @@ outcome_in (action_request d parameter) (coded c) = ActionCode c
 -- the datagram that carries the result back, where the request asked for a response
 abbrev pub reply_to : ℕ → ℕ → RequestContent → MeterResult → Option (List ℕ)
 reply_to source invoke content result =
-    if is_confirmed invoke then Some (wrapped 1 source (response_bytes invoke (response_of (outcome_in content result)))) else None
+    if is_confirmed invoke then Some (wrapped wport source (response_bytes invoke (response_of (outcome_in content result)))) else None
 
 -- The meter makes the step of a request, with this invoke byte from this source, and replies with its result. Faults says what is known of
 -- the store's faults if none of its calls failed, or one did.
@@ -83,7 +83,7 @@ pub record AsksForResponse (datagram : List ℕ) : Type 0 where
 pub record MayBringData (datagram : List ℕ) : Type 0 where
   pub source : ℕ
   pub apdu : List ℕ
-  pub wraps : Wraps datagram source 1 apdu
+  pub wraps : Wraps datagram source wport apdu
   pub holds : MayHoldData apdu
 
 -- only these take memory: for the Data that is read, or for the reply

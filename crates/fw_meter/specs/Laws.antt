@@ -20,6 +20,11 @@ OneAnswer =
     (old new other : Meter) (datagram : List ℕ) (r s : Option (List ℕ)) (a b : Option Name)
     → Handles true IsTrue old datagram r a new → Handles true IsTrue old datagram s b other → (r ≡ s) × (a ≡ b) × (new ≡ other)
 
+-- over an honest store that doesn't fail, whatever a meter does with a datagram leaves it its capacity
+abbrev pub KeepsSize : Type 0
+KeepsSize = (old new : Meter) (datagram : List ℕ) (reply : Option (List ℕ)) (activated : Option Name) → Handles true IsTrue old datagram reply activated new
+    → new.capacity ≡ old.capacity
+
 -- over an honest store that doesn't fail, a datagram is handled without a hardware fault
 abbrev pub Faultless : Type 0
 Faultless =

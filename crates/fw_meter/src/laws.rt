@@ -1,6 +1,6 @@
 //! Laws of a meter, over the definitions alone. A caller cites a law by calling it: nothing is done.
 
-ghost use Rattle.fw_meter.specs.Laws.{OneAnswer, Faultless, FaultIsStop, StopAfterIsStop, OneStop, TurnFaultIsStop, TellsRunning};
+ghost use Rattle.fw_meter.specs.Laws.{OneAnswer, KeepsSize, Faultless, FaultIsStop, StopAfterIsStop, OneStop, TurnFaultIsStop, TellsRunning};
 
 /// Over an honest store that doesn't fail, a meter and a datagram determine the reply, the activation and the meter
 /// afterwards.
@@ -11,6 +11,13 @@ pub fn one_answer()
     fw_wrapper::laws::one_frame();
     fw_apdu::laws::one_request();
     fw_image::laws::one_step();
+}
+
+/// Over an honest store that doesn't fail, whatever a meter does with a datagram leaves it its capacity.
+pub fn keeps_size()
+    ensures { KeepsSize }
+{
+    fw_image::laws::step_keeps_size();
 }
 
 /// Over an honest store that doesn't fail, a datagram is handled without a hardware fault.

@@ -45,7 +45,7 @@ use fw_image::{MeterView, OpenError, Phase, TransferStatus};
 use fw_names::ImageName;
 use fw_server::{Operation, Planned, Reading, ResultCode, plan};
 use fw_store::{ImageStore, MemoryStore, StoreFault};
-use std::alloc::Global;
+use std::alloc::{AllocError, Global};
 use std::marker::Model;
 
 /// A meter over a store.
@@ -169,6 +169,21 @@ impl<S: ImageStore + Drop> MeterCore<S> {
         let MeterCore { phase: held } = self;
         match held {
             Some(phase) => MeterCore::open_store(phase.into_store()),
+            None => unreachable!(),
+        }
+    }
+
+    /// The store, from which `open_kept` gives the meter again. A verification that goes on is not kept: the image is then received, with
+    /// all its blocks.
+    pub fn into_store(self) -> S
+        ensures held { Holds (S.known result) (stored self) }
+        ensures sound { (S.known result).sound ≡ self.sound }
+        ensures faults { (S.known result).faults ≡ self.faults }
+        ensures fuse { (S.known result).fuse ≡ self.fuse }
+    {
+        let MeterCore { phase: held } = self;
+        match held {
+            Some(phase) => phase.into_store(),
             None => unreachable!(),
         }
     }
@@ -427,6 +442,22 @@ impl MeterCore<MemoryStore> {
     {
         match &mut self.phase {
             Some(phase) => phase.unfuse(),
+            None => unreachable!(),
+        }
+    }
+
+    /// The same meter once more, over a store of its own.
+    ///
+    /// # Errors
+    ///
+    /// `AllocError` if memory was refused.
+    pub fn copy(&self, alloc: Global) -> Result<Self, AllocError>
+        ensures { IfOk result (λ copy. copy ≡ self.now) }
+    {
+        match &self.phase {
+            Some(phase) => Ok(MeterCore {
+                phase: Some(phase.copy(alloc)?),
+            }),
             None => unreachable!(),
         }
     }

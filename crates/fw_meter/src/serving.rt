@@ -13,11 +13,8 @@ ghost use Rattle.fw_meter.specs.Private.{IsHeard, IsRoomFor};
 use crate::error::OutOfMemory;
 use fw_apdu::{ApduError, Request, action_code, get_code, read_request, set_code};
 use fw_server::{Answer, Outcome, ResultCode, answer};
-use fw_wrapper::{WrapError, join, join_in, split};
+use fw_wrapper::{WPORT, WrapError, join, join_in, split};
 use std::alloc::Global;
-
-/// The wPort of the management process, which a meter serves.
-const METER_PORT: u16 = 1;
 
 /// The most bytes of a datagram that carries a code back: the header of the wrapper, and the response to a GET or to an ACTION.
 const CODE_REPLY_SIZE: usize = 13;
@@ -38,7 +35,7 @@ pub(crate) fn hear(alloc: Global, datagram: &[u8]) -> Result<Option<Heard>, OutO
     let Ok(frame) = split(datagram) else {
         return Ok(None);
     };
-    if frame.dest != METER_PORT {
+    if frame.dest != WPORT {
         return Ok(None);
     }
     match read_request(alloc, frame.apdu) {
@@ -87,7 +84,7 @@ impl Heard {
             Err(ApduError::OutOfMemory) => return Err(OutOfMemory),
             Err(_) => unreachable!(),
         };
-        match join(alloc, METER_PORT, self.source, &apdu) {
+        match join(alloc, WPORT, self.source, &apdu) {
             Ok(datagram) => Ok(Some(datagram)),
             Err(WrapError::OutOfMemory) => Err(OutOfMemory),
             Err(_) => unreachable!(),
@@ -129,14 +126,9 @@ impl Heard {
         let mut reply = room?;
         let (invoke, code, to) = (self.request.invoke(), code.number(), self.source);
         match &self.request {
-            Request::Get { .. } => join_in(&mut reply, METER_PORT, to, &get_code(invoke, code)),
-            Request::Set { .. } => join_in(&mut reply, METER_PORT, to, &set_code(invoke, code)),
-            Request::Action { .. } => join_in(
-                &mut reply,
-                METER_PORT,
-                to,
-                &action_code(invoke, code),
-            ),
+            Request::Get { .. } => join_in(&mut reply, WPORT, to, &get_code(invoke, code)),
+            Request::Set { .. } => join_in(&mut reply, WPORT, to, &set_code(invoke, code)),
+            Request::Action { .. } => join_in(&mut reply, WPORT, to, &action_code(invoke, code)),
         }
         Some(reply)
     }

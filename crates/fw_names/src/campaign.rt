@@ -9,7 +9,7 @@ use std::marker::Model;
 
 /// A campaign: a head end's, with its serial number there from 1 on, or the factory's, which has
 /// neither.
-#[derive(Clone, Copy, Debug, PartialEq, Eq, PartialOrd, Ord, Hash)]
+#[derive(Clone, Copy, Debug, PartialEq, Eq)]
 pub struct CampaignId {
     head: u32,
     serial: u32,

@@ -1,4 +1,3 @@
 -- Public vocabulary: the words of public clauses, for callers and readers.
 pub mod Acts
-pub mod Datagrams
 pub mod Lists

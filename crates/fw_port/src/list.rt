@@ -12,7 +12,7 @@ use std::sync::Wait;
 use std::vec::IntoIter;
 
 /// How much later it is after each receive, in microseconds.
-const TICK: u64 = 1_000;
+pub const TICK: u64 = 1_000;
 
 /// A datagram, with the address that it came from or goes to.
 #[derive(Drop)]
@@ -99,7 +99,8 @@ impl<'a, R, Report: Drop, L> ListPort<'a, R, Report, L> {
 impl<'a, R: Wait, Report: Drop, L> ListPort<'a, R, Report, L> {
     /// Makes a report.
     pub fn report(&mut self, report: Report)
-        ensures { acts_of self.new.deeds.items ≡ told report ∷ acts_of self.old.deeds.items }
+        ensures acts { acts_of self.new.deeds.items ≡ told report ∷ acts_of self.old.deeds.items }
+        ensures time { self.new.time ≡ self.old.time }
     {
         push(self.rt, &mut self.deeds, Deed::Told(report));
     }

@@ -17,17 +17,9 @@ ghost use Rattle.std.specs.Prelude.{
 };
 ghost use Rattle.fw_port.specs.Acts.{Act, came, quiet, sent};
 
-use fw_wrapper::MAX_APDU;
 use std::fmt;
 use std::net::SocketAddr;
 use thiserror::Error;
-
-/// The bytes of the wrapper's header.
-const HEADER_SIZE: usize = 8;
-
-/// The bytes of the buffer that a daemon receives into: one more than a datagram of this profile can have, so a longer one, which is
-/// cut, is none.
-pub const MAX_RECEIVED: usize = HEADER_SIZE + MAX_APDU + 1;
 
 /// The port is closed: nothing comes any more.
 #[derive(Clone, Copy, Debug, Error)]

@@ -108,7 +108,7 @@ impl UdpPort {
 }
 
 impl Port<NoReport> for UdpPort {
-    ghost use Rattle.std.specs.Prelude.{false, [], ⊤};
+    ghost use Rattle.std.specs.Prelude.{◌≡◌, false, [], ⊤};
 
     ghost honest = { λ _. false };
 
@@ -146,11 +146,15 @@ impl Port<NoReport> for UdpPort {
     }
 
     /// How often the socket failed, at a receive or a send.
-    fn faults(&self) -> u64 {
+    fn faults(&self) -> u64
+        ensures { result ≡ self.now.faults }
+    {
         self.faults
     }
 
-    fn unopened(&self) -> u64 {
+    fn unopened(&self) -> u64
+        ensures { result ≡ 0 }
+    {
         0
     }
 

@@ -3,7 +3,7 @@ use Rattle.std.proofs.Common.{◌≡◌, inl, inr, ⊎_elim, ℕ, ◌+◌, ◌-�
 use Rattle.std.proofs.lemmas.Bool.{cases_lt}
 use Rattle.std.proofs.lemmas.List.{reverse-append, length-append, length-take, length-drop, take-append-le, take_all}
 use Rattle.std.specs.Global.{Vec}
-use Rattle.fw_undo.specs.Cut.{in_sector}
+use Rattle.fw_cuts.specs.Sectors.{in_sector}
 use Rattle.fw_cuts.specs.Both.{Both, of, On}
 use Rattle.fw_cuts.specs.Cuts.{Seen, Goes, splice, Cuts, Writes, Resizes, IsSynced}
 use Rattle.fw_cuts.specs.declared.files.Part.{Part}

@@ -1,6 +1,6 @@
 -- Public vocabulary: what was done to files in memory, newest first, and what is read, or left by a power cut, after it.
 use Rattle.std.specs.Prelude.{◌≡◌, ℕ, ◌≤◌, ◌-◌, Bool, true, false, if◌then◌else◌, List, [], ◌∷◌, length, take, reverse, ⊤}
-use Rattle.fw_undo.specs.Cut.{resized}
+use Rattle.fw_cuts.specs.Sectors.{resized}
 use Rattle.fw_cuts.specs.Both.{Both, of, On}
 use Rattle.fw_cuts.specs.Cuts.{Seen, Stays, splice, Cuts, MayResize}
 use Rattle.fw_cuts.specs.declared.files.Part.{Part}

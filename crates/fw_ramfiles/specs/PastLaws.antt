@@ -2,7 +2,7 @@
 use Rattle.std.specs.Prelude.{◌≡◌, ℕ, ◌+◌, ◌-◌, ◌≤◌, List, [], ◌∷◌, length, take, reverse}
 use Rattle.std.proofs.Common.{refl, sym, ◌∙◌, ap, subst, inl, inr, arith}
 use Rattle.std.proofs.lemmas.List.{length-take, take_all, take_min}
-use Rattle.fw_undo.specs.Cut.{in_sector}
+use Rattle.fw_cuts.specs.Sectors.{in_sector}
 use Rattle.fw_cuts.specs.Both.{Both}
 use Rattle.fw_cuts.specs.Cuts.{splice, Cuts}
 use Rattle.fw_cuts.specs.declared.files.Part.{Part}

@@ -34,7 +34,7 @@ use Rattle.fw_rollout.specs.Schedule.{EndsMeter, IsLiveAt, IsSchedule, SameMeter
 use Rattle.fw_rollout.specs.Daemon.{IsLed, IsList, IsOver, IsSaveDue, ended_of, hold, kept_of, live_of, live_rows}
 use Rattle.fw_rollout.specs.Plans.{GivesUpAt, given_up_at, with_meters}
 use Rattle.fw_rollout.specs.Stopping.{IsSaveStop, stop_of}
-use Rattle.fw_rollout.specs.Timing.{HasRoom, most_out}
+use Rattle.fw_rollout.specs.Timing.{HasRoom, most_out, max_tick}
 use Rattle.fw_rollout.proofs.Hearing.{Moves, Ends, given_up_ends, hears_nothing, hears_moved, hears_end}
 use Rattle.fw_rollout.proofs.Lives.{at_place, false_of_none, map_agree, none_of_false, one_over}
 use Rattle.fw_rollout.proofs.Rows.{stays}
@@ -98,7 +98,7 @@ count_mapped {X = X} p (x ∷ xs) =
 
 -- ---- how much is out
 
-pub in_flight : (out new count flight : ℕ) → HasRoom out flight → new ≤ out + count → count ≤ 15 → new ≤ most_out flight
+pub in_flight : (out new count flight : ℕ) → HasRoom out flight → new ≤ out + count → count ≤ max_tick → new ≤ most_out flight
 in_flight out new count flight (inl none) most few = omega arith
 in_flight out new count flight (inr room) most few = omega arith
 

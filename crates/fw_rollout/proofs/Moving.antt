@@ -35,10 +35,10 @@ one_less a b x n y e f h g = omega arith
 all_out : (n g l : ℕ) → n ≡ 0 → g ≡ l → n + g ≡ l
 all_out n g l e f = omega arith
 
-more_out : (a b l n c f : ℕ) → b ≡ min (a + c) (2 ^ 64 - 1) → l ≡ 0 → n ≡ c → (a ≡ 0) ⊎ (a + 15 ≤ f) → c ≤ 15 → f < 2 ^ 64 → b + l ≡ a + n
+more_out : (a b l n c f : ℕ) → b ≡ min (a + c) (2 ^ 64 - 1) → l ≡ 0 → n ≡ c → (a ≡ 0) ⊎ (a + max_tick ≤ f) → c ≤ max_tick → f < 2 ^ 64 → b + l ≡ a + n
 more_out a b l n c f e z g room few fits = omega arith
 
-most_of : (a b c f : ℕ) → b ≡ min (a + c) (2 ^ 64 - 1) → (a ≡ 0) ⊎ (a + 15 ≤ f) → c ≤ 15 → b ≤ max f 15
+most_of : (a b c f : ℕ) → b ≡ min (a + c) (2 ^ 64 - 1) → (a ≡ 0) ⊎ (a + max_tick ≤ f) → c ≤ max_tick → b ≤ max f max_tick
 most_of a b c f e room few = omega arith
 
 within_less : (old new : Schedule) → IsSchedule old → new.timing ≡ old.timing → new.out ≤ old.out → new.out ≤ most_out new.timing.flight

@@ -1,5 +1,6 @@
 -- Public vocabulary: how long an answer is waited for, in microseconds, and how many datagrams are out at once.
 use Rattle.std.specs.Prelude.{◌≡◌, ◌⊎◌, ℕ, ◌+◌, ◌*◌, ◌/◌, ◌≤◌, min, max}
+use Rattle.fw_blocks.specs.Width.{max_width}
 
 -- a minute
 abbrev pub longest_wait : ℕ
@@ -13,9 +14,9 @@ first_pause = 5000
 abbrev pub longest_pause : ℕ
 longest_pause = 500000
 
--- the most datagrams of one tick
+-- the most datagrams of one tick: those of a whole window
 abbrev pub max_tick : ℕ
-max_tick = 15
+max_tick = max_width
 
 -- four times the last round trip, no less than the first wait, and a minute at most
 abbrev pub wait_after : ℕ → ℕ → ℕ

@@ -4,11 +4,9 @@ ghost use Rattle.std.specs.Prelude.{◌≡◌, IfOk, replicate, slice_set};
 ghost use Rattle.fw_plan.specs.Silence.{no_contact};
 ghost use Rattle.fw_rollout.specs.Contacts.{asked_in, contact_in, contacts_of, heard_in, seconds_of};
 
+use crate::timing::SECOND;
 use fw_plan::Contact;
 use std::alloc::{AllocError, Global};
-
-/// The microseconds of a second.
-const SECOND: u64 = 1_000_000;
 
 /// The seconds of a time in microseconds.
 pub(crate) fn seconds_of(time: u64) -> u64

@@ -29,4 +29,4 @@ pub use plan::Plan;
 pub use port::HeadPort;
 pub use serving::{HeadWatch, Leg, serve_head, serve_plan, step_head};
 pub use stuck::Stuck;
-pub use timing::{FIRST_PAUSE, LONGEST_PAUSE, LONGEST_WAIT, MAX_TICK, Timing};
+pub use timing::{FIRST_PAUSE, LONGEST_PAUSE, LONGEST_WAIT, MILLISECOND, SECOND, Timing};

@@ -20,7 +20,8 @@ use crate::port::HeadPort;
 use crate::stuck::Stuck;
 use fw_head::HeadCore;
 use fw_journal::JournalDevice;
-use fw_port::{MAX_RECEIVED, Patience};
+use fw_port::Patience;
+use fw_wrapper::MAX_RECEIVED;
 use std::net::SocketAddr;
 use std::sync::Wait;
 

@@ -5,6 +5,14 @@ ghost use Rattle.std.specs.Prelude.{◌≡◌, ◌↔◌, IsTrue};
 ghost use Rattle.fw_rollout.specs.Timing.{HasRoom, lengthened, longer, wait_after};
 ghost use Rattle.fw_rollout.specs.Laps.{longer_rest};
 
+use fw_blocks::MAX_WIDTH;
+
+/// The microseconds of a second.
+pub const SECOND: u64 = 1_000_000;
+
+/// Those of a millisecond.
+pub const MILLISECOND: u64 = 1_000;
+
 /// The longest wait, a minute.
 pub const LONGEST_WAIT: u64 = 60_000_000;
 
@@ -14,8 +22,8 @@ pub const FIRST_PAUSE: u64 = 5_000;
 /// The longest pause, half a second.
 pub const LONGEST_PAUSE: u64 = 500_000;
 
-/// The most datagrams that one tick of a row makes.
-pub const MAX_TICK: u64 = 15;
+/// The most datagrams that one tick of a row makes: those of a whole window.
+const MAX_TICK: u64 = MAX_WIDTH as u64;
 
 /// How a head end waits for answers.
 #[derive(Clone, Copy)]

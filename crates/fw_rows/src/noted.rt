@@ -1,19 +1,15 @@
 //! The rows of a book with what is known of them beside their states: when their campaigns were opened, when they ended, and why they failed.
 
-ghost use Rattle.std.specs.Prelude.{◌≡◌, ◌≤◌, ◌∷◌, ◌++◌, [], flat_map, map, IfOk, OnOk, string_bytes};
-ghost use Rattle.serde_json.specs.View.{view};
+ghost use Rattle.std.specs.Prelude.{◌≡◌, ◌≤◌, ◌∷◌, ◌++◌, [], flat_map, OnOk, string_bytes};
 ghost use Rattle.fw_rows.specs.Noted.{
   csv_row,
   end_time,
-  noted_data,
   noted_entry,
   noted_fields,
   noted_of_book,
-  reason_data,
   reason_field,
   reason_of_end,
   row_cells,
-  time_data,
   time_field,
 };
 
@@ -22,8 +18,7 @@ use crate::row::{RowEntry, head_number, state_word};
 use crate::table::append_number;
 use fw_book::{Book, End, Notes, Reason, Row};
 use fw_names::{CampaignId, HeadId};
-use serde_json::{Value, json};
-use std::alloc::{AllocError, Global};
+use std::alloc::AllocError;
 use std::marker::Model;
 
 /// A row, and what is known of it.
@@ -190,58 +185,4 @@ fn reason_of(end: Option<End>) -> Option<Reason>
         Some(end) => end.reason,
         None => None,
     }
-}
-
-/// Adds the value of each row.
-pub fn push_noted_values(
-    alloc: Global,
-    values: &mut Vec<Value>,
-    rows: &[NotedRow],
-) -> Result<(), AllocError>
-    ensures { OnOk result (map view values.new.items ≡ map view values.old.items ++ map (λ row. noted_data row) rows.now) }
-{
-    for row in rows {
-        values.push(noted_value(alloc, row)?)?;
-    }
-    Ok(())
-}
-
-/// The value of a row: null stands for what isn't known.
-fn noted_value(alloc: Global, noted: &NotedRow) -> Result<Value, AllocError>
-    ensures { IfOk result (λ v. view v ≡ noted_data noted.now) }
-{
-    let ended = time_value(alloc, time_of(noted.end))?;
-    let opened = time_value(alloc, noted.opened)?;
-    let reason = reason_value(alloc, reason_of(noted.end))?;
-    json!(in alloc; {
-        "campaign": noted.row.serial,
-        "ended": ended,
-        "head": noted.row.head,
-        "meter": noted.row.meter,
-        "opened": opened,
-        "reason": reason,
-        "state": state_word(noted.row.state),
-    })
-}
-
-/// The value of a time, and null for one that isn't known.
-fn time_value(alloc: Global, time: Option<u64>) -> Result<Value, AllocError>
-    ensures { IfOk result (λ v. view v ≡ time_data time) }
-{
-    match time {
-        Some(time) => json!(in alloc; time),
-        None => Ok(Value::Null),
-    }
-}
-
-/// The value of a reason, and null for one that isn't known.
-fn reason_value(alloc: Global, reason: Option<Reason>) -> Result<Value, AllocError>
-    ensures { IfOk result (λ v. view v ≡ reason_data reason) }
-{
-    let Some(reason) = reason else {
-        return Ok(Value::Null);
-    };
-    let mut text = String::new(alloc);
-    append_failure(&mut text, reason)?;
-    json!(in alloc; text.as_str())
 }

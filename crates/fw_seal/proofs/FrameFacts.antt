@@ -3,8 +3,8 @@ use Rattle.std.proofs.Common.{◌≡◌, ◌≢◌, ℕ, ◌-◌, ◌^◌, ◌<�
 use Rattle.std.specs.Result.{MatchResult}
 use Rattle.std.proofs.lemmas.Bool.{le-ltb}
 use Rattle.std.proofs.lemmas.List.{take_all}
-use Rattle.fw_reader.specs.declared.error.ReadError.{ReadError}
-use Rattle.fw_reader.specs.Reading as reader
+use Rattle.fw_axdr.specs.declared.reader.ReadError.{ReadError}
+use Rattle.fw_axdr.specs.Reading as reader
 use Rattle.fw_axdr.specs.Fault.{LengthFails}
 use Rattle.fw_axdr.specs.Private.{seen}
 use Rattle.fw_axdr.specs.Spelling.{IsLength}

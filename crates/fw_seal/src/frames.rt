@@ -5,7 +5,7 @@ ghost use Rattle.fw_axdr.specs.Spelling.{short_length};
 ghost use Rattle.fw_seal.specs.Sealing.{HasCounter, HasForm, IsContent, IsFrame, NoContent, NoFrame};
 
 use fw_aes::TAG_SIZE;
-use fw_reader::Reader;
+use fw_axdr::reader::Reader;
 use std::alloc::AllocError;
 
 /// Suite 0, authenticated and encrypted, with the global unicast key.

@@ -5,7 +5,7 @@ use Rattle.fw_port.specs.Acts.{came, quiet, sent, told}
 use Rattle.fw_rollout.specs.Acts.{Act}
 use Rattle.fw_rollout.specs.Leading.{IsListed, Step, hears, idles, ticks, sends, saves, tells, acts_of}
 use Rattle.fw_seal.specs.Sealing.{Ends}
-use Rattle.fw_wrapper.specs.Wrapper.{wrapped}
+use Rattle.fw_wrapper.specs.Wrapper.{wrapped, wport}
 use Rattle.fw_world.specs.World.{Datagram}
 use Rattle.fw_world.specs.declared.datagram.Direction.{Direction}
 use Rattle.fw_world.specs.declared.datagram.Direction.TheVariants.{ToMeter, ToHead}
@@ -106,20 +106,20 @@ ports_keep_heads links s number leader peers steps is of_head through from datag
 
 pub answers_are_sealed : AnswersAreSealed
 answers_are_sealed addresses f number acts s answers is =
-    let a = answers is.to (wrapped 1 1 s.apdu) is.was_sent in
+    let a = answers is.to (wrapped wport wport s.apdu) is.was_sent in
     let heads : a.0 ≡ s.head = is.only a.0 a.1 in
     let meters : number ≡ s.meter = sym is.meter_is in
     let ways : ToHead ≡ s.direction = sym is.way in
-    let same : to_head a.0 number (wrapped 1 1 s.apdu) ≡ plain_of s = λ i. record { head = heads i; meter = meters i; direction = ways i; bytes = wrapped 1 1 s.apdu } in
+    let same : to_head a.0 number (wrapped wport wport s.apdu) ≡ plain_of s = λ i. record { head = heads i; meter = meters i; direction = ways i; bytes = wrapped wport wport s.apdu } in
     subst (λ (d : Datagram). Contains f.sent d) same a.2
 
 pub requests_are_sealed : RequestsAreSealed
 requests_are_sealed f number start steps s does is =
-    let a = does.sent_all is.to (wrapped 1 1 s.apdu) is.was_sent in
+    let a = does.sent_all is.to (wrapped wport wport s.apdu) is.was_sent in
     let heads : number ≡ s.head = sym is.head_is in
     let meters : a.0 ≡ s.meter = is.only a.0 a.1 in
     let ways : ToMeter ≡ s.direction = sym is.way in
-    let same : to_meter number a.0 (wrapped 1 1 s.apdu) ≡ plain_of s = λ i. record { head = heads i; meter = meters i; direction = ways i; bytes = wrapped 1 1 s.apdu } in
+    let same : to_meter number a.0 (wrapped wport wport s.apdu) ≡ plain_of s = λ i. record { head = heads i; meter = meters i; direction = ways i; bytes = wrapped wport wport s.apdu } in
     subst (λ (d : Datagram). Contains f.sent d) same a.2
 
 -- ---- what daemons do behind ports

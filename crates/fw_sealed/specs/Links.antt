@@ -3,7 +3,7 @@
 -- of a link were made by others than the ends of that link.
 use Rattle.std.specs.Prelude.{◌≡◌, ℕ, List, Contains}
 use Rattle.fw_seal.specs.Sealing.{Ends, IsSealing, Keys}
-use Rattle.fw_wrapper.specs.Wrapper.{Wraps, wrapped}
+use Rattle.fw_wrapper.specs.Wrapper.{Wraps, wrapped, wport}
 use Rattle.fw_world.specs.World.{Datagram}
 use Rattle.fw_world.specs.declared.datagram.Direction.{Direction}
 use Rattle.fw_world.specs.declared.datagram.Direction.TheVariants.{ToMeter, ToHead}
@@ -39,7 +39,7 @@ sealer s = end_of s.direction s.head s.meter
 
 -- the datagram whose APDU it is, as its end sent it in plain words: each end has wPort 1 there, whatever stands on the wire
 abbrev pub plain_of : Seal → Datagram
-plain_of s = record { head = s.head; meter = s.meter; direction = s.direction; bytes = wrapped 1 1 s.apdu }
+plain_of s = record { head = s.head; meter = s.meter; direction = s.direction; bytes = wrapped wport wport s.apdu }
 
 -- ends seal only what they sent
 abbrev pub SealsWhatIsSent : List Seal → Field → Type 0
@@ -72,4 +72,4 @@ pub record CameSealed (links : Links) (arrived : List (List ℕ)) (head meter : 
   pub counter : ℕ
   pub apdu : List ℕ
   pub opens : IsOn links (record { head = head; meter = meter; direction = direction; counter = counter; apdu = apdu }) wire
-  pub plain : datagram ≡ wrapped 1 1 apdu
+  pub plain : datagram ≡ wrapped wport wport apdu

@@ -2,7 +2,7 @@
 use Rattle.std.specs.Prelude.{◌≡◌, ℕ, List, Contains}
 use Rattle.std.specs.declared.net.socket_addr.SocketAddr.{SocketAddr}
 use Rattle.fw_seal.specs.Sealing.{Ends}
-use Rattle.fw_wrapper.specs.Wrapper.{wrapped}
+use Rattle.fw_wrapper.specs.Wrapper.{wrapped, wport}
 use Rattle.fw_port.specs.Acts.{Act, came, sent}
 use Rattle.fw_daemon.specs.Acts as daemon
 use Rattle.fw_rollout.specs.Leading.{IsListed, Leader, Step, sends}
@@ -21,7 +21,7 @@ pub record OpensAs (peer : Peer) (wires : List (List ℕ)) (datagram : List ℕ)
   pub counter : ℕ
   pub apdu : List ℕ
   pub opens : Opens peer.ends.keys peer.ends.other counter apdu wire
-  pub plain : datagram ≡ wrapped 1 1 apdu
+  pub plain : datagram ≡ wrapped wport wport apdu
 
 -- Of these bytes that came, a port let through only what opened: each datagram that came to its daemon, from the address of a peer, is the
 -- APDU of a sealing by that peer.
@@ -46,7 +46,7 @@ pub record IsSealedAnswer (addresses : ℕ → List SocketAddr) (number : ℕ) (
   pub way : s.direction ≡ ToHead
   pub to : SocketAddr
   pub only : (head : ℕ) → Contains (addresses head) to → head ≡ s.head
-  pub was_sent : Contains acts (sent to (wrapped 1 1 s.apdu))
+  pub was_sent : Contains acts (sent to (wrapped wport wport s.apdu))
 
 -- the port of a head end sealed this, which the head end sent to the address of that meter, and of no other
 pub record IsSealedRequest (number : ℕ) (leader : Leader) (steps : List Step) (s : Seal) : Type 0 where
@@ -54,4 +54,4 @@ pub record IsSealedRequest (number : ℕ) (leader : Leader) (steps : List Step) 
   pub way : s.direction ≡ ToMeter
   pub to : SocketAddr
   pub only : (meter : ℕ) → IsListed leader meter to → meter ≡ s.meter
-  pub was_sent : Contains steps (sends to (wrapped 1 1 s.apdu))
+  pub was_sent : Contains steps (sends to (wrapped wport wport s.apdu))

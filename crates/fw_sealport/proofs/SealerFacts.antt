@@ -2,7 +2,7 @@
 use Rattle.std.proofs.Common.{◌≡◌, ◌⊎◌, inr, ℕ, ◌≤◌, List, Option, IsTrue, refl, ◌∙◌}
 use Rattle.fw_journal.specs.declared.device.JournalDevice
 use Rattle.fw_wrapper.specs.Laws.{OneFrame}
-use Rattle.fw_wrapper.specs.Wrapper.{Wraps}
+use Rattle.fw_wrapper.specs.Wrapper.{Wraps, wport}
 use Rattle.fw_seal.specs.Sealing.{Ends}
 use Rattle.fw_counter.specs.Counters.{counter_of, device_of, is_broken, IsFull}
 use Rattle.fw_counter.specs.Moves.{limit}
@@ -28,7 +28,7 @@ why_none J counters counter.CounterSpent refusal spent never memory = spent refl
 why_none J counters counter.OutOfMemory refusal spent never memory = memory refl
 
 -- an APDU isn't sealed although a counter was used
-module _ {D : Type 0} (J : JournalDevice.Ghosts D) (ends : Ends) (old : Sealer D) (datagram apdu : List ℕ) (one : OneFrame) (wraps : Wraps datagram 1 1 apdu) where
+module _ {D : Type 0} (J : JournalDevice.Ghosts D) (ends : Ends) (old : Sealer D) (datagram apdu : List ℕ) (one : OneFrame) (wraps : Wraps datagram wport wport apdu) where
   pub why_unsealed : (reason : Unsealed) → IfUnsealed reason (NoneSeals ends apdu) → WhyUnsealed J ends old datagram reason
   why_unsealed unsent.Stranger is = absurd is
   why_unsealed unsent.NotPlain none = none_plain one ends datagram apdu wraps none

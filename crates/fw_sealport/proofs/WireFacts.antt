@@ -3,7 +3,7 @@ use Rattle.std.proofs.Common.{◌≡◌, ◌⊎◌, ⊎_elim, ℕ, ◌+◌, ◌<
 use Rattle.std.proofs.lemmas.Bool.Decides.{nat_tests}
 use Rattle.fw_axdr.specs.Spelling.{short_length}
 use Rattle.fw_wrapper.specs.Laws.{OneFrame}
-use Rattle.fw_wrapper.specs.Wrapper.{Wraps, max_apdu, wrapped}
+use Rattle.fw_wrapper.specs.Wrapper.{Wraps, max_apdu, wrapped, wport}
 use Rattle.fw_wrapper.specs.declared.error.WrapError.{WrapError}
 use Rattle.fw_wrapper.specs.declared.error.WrapError.TheVariants as wrapping
 use Rattle.fw_seal.specs.Refusal.{IfRefused, IsRefusal, first_applying, max_apdu as longest, refusal_of}
@@ -87,7 +87,7 @@ module _ (keys : Keys) (title wire : List ℕ) where
 
 -- a sealing that is short enough is sent
 pub seals_short : (ends : Ends) (counter : ℕ) (apdu inner wire : List ℕ) → IsShortSealing ends.keys ends.own counter apdu inner → length inner ≤ max_apdu
-    → wire ≡ wrapped 1 1 inner → Seals ends counter apdu wire
+    → wire ≡ wrapped wport wport inner → Seals ends counter apdu wire
 seals_short ends counter apdu inner wire sealed short joined = record {
   sealing = inner;
   sealed = sealed;
@@ -103,14 +103,14 @@ apdu_is_short : (ends : Ends) (counter : ℕ) (apdu wire : List ℕ) → Seals e
 apdu_is_short ends counter apdu wire s = omega (arith, s.wraps.apdu_fits, short_size ends.keys ends.own counter apdu s.sealing s.sealed)
 
 -- what is sealed in place of a datagram, that datagram wraps
-pub plain_wraps : (ends : Ends) (counter : ℕ) (datagram wire : List ℕ) (s : SealsPlain ends counter datagram wire) → Wraps datagram 1 1 s.apdu
+pub plain_wraps : (ends : Ends) (counter : ℕ) (datagram wire : List ℕ) (s : SealsPlain ends counter datagram wire) → Wraps datagram wport wport s.apdu
 plain_wraps ends counter datagram wire s =
     record { source_fits = omega arith; dest_fits = omega arith; apdu_fits = apdu_is_short ends counter s.apdu wire s.seals; bytes = s.plain_is }
 
-pub no_plain : (ends : Ends) (datagram : List ℕ) → ((apdu : List ℕ) → ¬ Wraps datagram 1 1 apdu) → HasNoSealing ends datagram
+pub no_plain : (ends : Ends) (datagram : List ℕ) → ((apdu : List ℕ) → ¬ Wraps datagram wport wport apdu) → HasNoSealing ends datagram
 no_plain ends datagram none counter wire s = none s.apdu (plain_wraps ends counter datagram wire s)
 
-pub none_plain : OneFrame → (ends : Ends) (datagram apdu : List ℕ) → Wraps datagram 1 1 apdu → NoneSeals ends apdu → HasNoSealing ends datagram
+pub none_plain : OneFrame → (ends : Ends) (datagram apdu : List ℕ) → Wraps datagram wport wport apdu → NoneSeals ends apdu → HasNoSealing ends datagram
 none_plain one ends datagram apdu wraps none counter wire s =
     none counter wire (subst (λ (l : List ℕ). Seals ends counter l wire) (one datagram s.apdu apdu 1 1 1 1 (plain_wraps ends counter datagram wire s) wraps).2 s.seals)
 

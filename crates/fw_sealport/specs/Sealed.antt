@@ -1,11 +1,11 @@
 -- Public vocabulary: datagrams that carry sealings, and what they are in plain words.
 use Rattle.std.specs.Prelude.{◌≡◌, ℕ, List}
-use Rattle.fw_wrapper.specs.Wrapper.{Wraps, wrapped}
+use Rattle.fw_wrapper.specs.Wrapper.{Wraps, wrapped, wport}
 use Rattle.fw_seal.specs.Sealing.{Ends, HasForm, IsSealing, IsShortSealing, Keys}
 
 -- The datagram of an APDU in plain words, as a daemon has it: it goes from and to wPort 1, whatever stands on the wire.
 abbrev pub plain_of : List ℕ → List ℕ
-plain_of apdu = wrapped 1 1 apdu
+plain_of apdu = wrapped wport wport apdu
 
 -- ---- what comes
 
@@ -35,7 +35,7 @@ pub record MayOpen (wire : List ℕ) : Type 0 where
 pub record Seals (ends : Ends) (counter : ℕ) (apdu wire : List ℕ) : Type 0 where
   pub sealing : List ℕ
   pub sealed : IsShortSealing ends.keys ends.own counter apdu sealing
-  pub wraps : Wraps wire 1 1 sealing
+  pub wraps : Wraps wire wport wport sealing
 
 -- none are that, whatever the counter: its service isn't sealed, or its sealing is too long for a datagram
 abbrev pub NoneSeals : Ends → List ℕ → Type 0
@@ -53,4 +53,4 @@ HasNoSealing ends datagram = (counter : ℕ) (wire : List ℕ) → ¬ SealsPlain
 
 -- a datagram is a plain one
 abbrev pub IsPlain : List ℕ → Type 0
-IsPlain datagram = (apdu : List ℕ) × Wraps datagram 1 1 apdu
+IsPlain datagram = (apdu : List ℕ) × Wraps datagram wport wport apdu

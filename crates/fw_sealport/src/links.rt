@@ -55,7 +55,7 @@ impl Links {
     /// # Errors
     ///
     /// Those of [`Unopened`]. The links are as before then.
-    pub(crate) fn open(
+    pub fn open(
         &mut self,
         alloc: Global,
         from: SocketAddr,

@@ -93,7 +93,7 @@ impl<P: WirePort + Drop, D: JournalDevice + Drop> SealedPort<P, D> {
         self.dropped.refused()
     }
 
-    /// Receives the next datagram, and opens it. If it doesn't open, nothing came.
+    /// Receives the next datagram, and opens it. If it doesn't open, nothing came, which the port below is told.
     ///
     /// # Errors
     ///
@@ -118,6 +118,7 @@ impl<P: WirePort + Drop, D: JournalDevice + Drop> SealedPort<P, D> {
         };
         let from = arrival.from;
         let Some(count) = self.open_in_place(from, buffer, arrival.count) else {
+            self.port.note_unopened(patience);
             return Ok(None);
         };
         Ok(Some(Arrival { from, count }))

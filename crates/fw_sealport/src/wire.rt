@@ -3,20 +3,14 @@
 ghost use Rattle.std.specs.Prelude.{◌≡◌, ◌≤◌, ◌<◌, ℕ, List, IfErr, IfNone, IfOk, IfSome, length};
 ghost use Rattle.fw_counter.specs.Moves.{limit};
 ghost use Rattle.fw_seal.specs.Refusal.{IfRefused};
-ghost use Rattle.fw_wrapper.specs.Wrapper.{Wraps, max_apdu};
+ghost use Rattle.fw_wrapper.specs.Wrapper.{Wraps, max_apdu, wport};
 ghost use Rattle.fw_sealport.specs.Counts.{IfUnsealed};
 ghost use Rattle.fw_sealport.specs.Sealed.{MayOpen, NoneSeals, Opens, OpensNot, Seals, plain_of};
 
 use crate::unsealed::Unsealed;
 use fw_seal::{Counters, Link, OpenError, Opened};
-use fw_wrapper::{join, join_in, split};
+use fw_wrapper::{HEADER_SIZE, WPORT, join, join_in, split};
 use std::alloc::{AllocError, Global};
-
-/// The wPort of both ends.
-const PORT: u16 = 1;
-
-/// The bytes of the wrapper's header.
-const HEADER_SIZE: usize = 8;
 
 /// The APDU that bytes carry, from and to whatever wPorts, in a sealing by the other end of this link.
 ///
@@ -41,19 +35,19 @@ pub(crate) fn plain_datagram(alloc: Global, apdu: &[u8]) -> Result<Vec<u8>, Allo
     ensures { IfOk result (λ plain. plain.items ≡ plain_of apdu.now) }
 {
     let mut plain = Vec::with_capacity(alloc, HEADER_SIZE + apdu.len())?;
-    join_in(&mut plain, PORT, PORT, apdu);
+    join_in(&mut plain, WPORT, WPORT, apdu);
     Ok(plain)
 }
 
 /// The APDU of a datagram, if it is a plain one.
 pub(crate) fn plain_apdu(datagram: &[u8]) -> Option<&[u8]>
-    ensures found { IfSome result (λ apdu. Wraps datagram.now 1 1 apdu.now) }
-    ensures none { IfNone result ((apdu : List ℕ) → ¬ Wraps datagram.now 1 1 apdu) }
+    ensures found { IfSome result (λ apdu. Wraps datagram.now wport wport apdu.now) }
+    ensures none { IfNone result ((apdu : List ℕ) → ¬ Wraps datagram.now wport wport apdu) }
 {
     let Ok(frame) = split(datagram) else {
         return None;
     };
-    if frame.source != PORT || frame.dest != PORT {
+    if frame.source != WPORT || frame.dest != WPORT {
         return None;
     }
     Some(frame.apdu)
@@ -77,6 +71,6 @@ pub(crate) fn seal_apdu(
 {
     let mut counters = Counters::reserved(number, number + 1);
     let sealing = link.seal(alloc, &mut counters, apdu)?;
-    let wire = join(alloc, PORT, PORT, &sealing)?;
+    let wire = join(alloc, WPORT, WPORT, &sealing)?;
     Ok(wire)
 }

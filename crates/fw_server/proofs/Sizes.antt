@@ -3,6 +3,8 @@ use Rattle.std.proofs.Common.{◌≡◌, ℕ, ◌+◌, ◌<◌, ◌≤◌, ◌^�
 use Rattle.std.proofs.lemmas.Grind.{common_steps}
 use Rattle.std.specs.Prelude.{IfOk, IfErr}
 use Rattle.std.specs.Global.{Vec}
+use Rattle.fw_wrapper.specs.Wrapper.{max_apdu}
+use Rattle.fw_blocks.specs.Cuts.{max_blocks}
 use Rattle.fw_axdr.specs.Spelling.{short, max_depth}
 use Rattle.fw_axdr.specs.Fault.{unwritable}
 use Rattle.fw_axdr.specs.Bits.{bytes_for}
@@ -70,7 +72,7 @@ pub written_size : (r : Result (Vec ℕ) ApduError) (invoke : ℕ) (k : Response
 written_size (Ok v) invoke k o h same written = rw (written, same) (outcome_size invoke o h)
 written_size (Err e) invoke k o h same written = tt
 
-pub size_fits : (r : Result (Vec ℕ) ApduError) (n : ℕ) → IfOk r (λ v. length v.items ≤ 94 + bytes_for n) → n ≤ 16384 → IfOk r (λ v. length v.items ≤ 2304)
+pub size_fits : (r : Result (Vec ℕ) ApduError) (n : ℕ) → IfOk r (λ v. length v.items ≤ 94 + bytes_for n) → n ≤ max_blocks → IfOk r (λ v. length v.items ≤ max_apdu)
 size_fits (Ok v) n size few = omega (arith, size, few)
 size_fits (Err e) n size few = tt
 

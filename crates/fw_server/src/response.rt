@@ -1,6 +1,8 @@
 //! The response that carries the outcome of a request.
 
 ghost use Rattle.std.specs.Prelude.{◌≡◌, ◌+◌, ◌<◌, ◌≤◌, ◌^◌, length, IfOk, IfErr, OnOk};
+ghost use Rattle.fw_wrapper.specs.Wrapper.{max_apdu};
+ghost use Rattle.fw_blocks.specs.Cuts.{max_blocks};
 ghost use Rattle.fw_axdr.specs.Value.{octet_string, array};
 ghost use Rattle.fw_axdr.specs.Bits.{bytes_for};
 ghost use Rattle.fw_axdr.specs.View.{value_of};
@@ -29,8 +31,8 @@ pub fn answer(alloc: Global, invoke: &Invoke, outcome: &Outcome) -> Result<Vec<u
     ensures sizes { OnOk result (HasAnswerSizes outcome.now) }
     // The size in bytes, beside the bits.
     ensures size { IfOk result (λ apdu. length apdu.items ≤ 94 + bytes_for (bits_in outcome.now)) }
-    // So the bits of 16,384 blocks fit one APDU.
-    ensures fits { bits_in outcome.now ≤ 16384 → IfOk result (λ apdu. length apdu.items ≤ 2304) }
+    // So the bits of the most blocks fit one APDU.
+    ensures fits { bits_in outcome.now ≤ max_blocks → IfOk result (λ apdu. length apdu.items ≤ max_apdu) }
 
     ensures memory { bits_in outcome.now < 2 ^ 32 → IfErr result (λ e. e ≡ error.OutOfMemory) }
     ensures too_long { 2 ^ 32 ≤ bits_in outcome.now → result ≡ Err (error.BadData BadLength) }

@@ -34,6 +34,7 @@ ghost use Rattle.std.specs.Prelude.{
 };
 ghost use Rattle.std.specs.Sync.Mutex.{mutex_guard_value};
 ghost use Rattle.std.specs.Vec.{vec_len, vec_capacity};
+ghost use Rattle.fw_blocks.specs.Width.{max_width};
 ghost use Rattle.fw_air.specs.Rounds.{is_verifying};
 ghost use Rattle.fw_book.specs.Contents.{image_in};
 ghost use Rattle.fw_image.specs.State.{Turns};
@@ -308,7 +309,7 @@ impl Shard {
         ensures event { IfOk result (λ held. held.act.event ≡ tick book.now.head meter) }
         ensures step { IfOk result (λ held. RowsTick book.now width meter (mutex_guard_value guard.entry).rows.items held.act.sent
             held.act.left.rows.items) }
-        ensures most { IfOk result (λ held. length held.act.sent ≤ 15) }
+        ensures most { IfOk result (λ held. length held.act.sent ≤ max_width) }
     {
         let act = guard.tick(alloc, book, width, meter, room)?;
         Ok(Held { guard, act })
@@ -348,7 +349,7 @@ impl Shard {
         ensures event { IfOk result (λ act. act.event ≡ tick book.now.head meter) }
         ensures step { IfOk result (λ act. RowsTick book.now width meter self.old.rows.items act.sent self.new.rows.items) }
         ensures left { IfOk result (λ act. act.left ≡ self.new) }
-        ensures most { IfOk result (λ act. length act.sent ≤ 15) }
+        ensures most { IfOk result (λ act. length act.sent ≤ max_width) }
         ensures same { OnErr result (self.new.rows.items ≡ self.old.rows.items) }
     {
         let head = book.head();
@@ -522,7 +523,7 @@ fn reply(room: &mut Room, datagram: &Datagram, meter: MeterId, reply: Option<Vec
 
 /// Puts in what a head end sends to a meter.
 fn send(room: &mut Room, head: HeadId, meter: MeterId, sends: Vec<Vec<u8>>)
-    requires { length room.old + length sends.items ≤ 15 }
+    requires { length room.old + length sends.items ≤ max_width }
     ensures { room.new ≡ room.old ++ sent_to head meter (bytes_of sends.items) }
 {
     for bytes in sends {

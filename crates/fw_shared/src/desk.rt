@@ -2,6 +2,7 @@
 
 ghost use Rattle.std.specs.Prelude.{◌≡◌, ◌≤◌, ◌<◌, IsTrue, IfOk, IfErr, OnOk, OnErr, if◌then◌else◌};
 ghost use Rattle.std.specs.Vec.{vec_len};
+ghost use Rattle.fw_blocks.specs.Width.{max_width};
 ghost use Rattle.fw_air.specs.Rounds.{stands_in};
 ghost use Rattle.fw_world.specs.Step.{deliver, tick};
 ghost use Rattle.fw_world.specs.declared.error.StepError.TheVariants.{NoSuchActor, OutOfMemory};
@@ -102,7 +103,7 @@ impl Desk {
     ) -> Result<Sent, StepError>
         requires board { seat.old.board ≡ board.now.id }
         ensures ticked { IfOk result (λ sent. seat.new ≡ noted seat.old sent.event (tick self.now.book.head meter)) }
-        ensures most { IfOk result (λ sent. sent.count ≤ 15) }
+        ensures most { IfOk result (λ sent. sent.count ≤ max_width) }
         ensures listed { OnOk result (IsTrue (stands_in self.now.book meter)) }
         ensures cause { IfErr result (λ e. e ≡ (if stands_in self.now.book meter then OutOfMemory else NoSuchActor)) }
         ensures refused { IfErr result IsCoreRefusal }

@@ -262,7 +262,7 @@ fn counts_value(alloc: Global, campaign: &CampaignStatus) -> Result<Value, Alloc
 }
 
 /// The value of a time, and null for one that isn't known.
-fn time_value(alloc: Global, time: Option<u64>) -> Result<Value, AllocError>
+pub(crate) fn time_value(alloc: Global, time: Option<u64>) -> Result<Value, AllocError>
     ensures { IfOk result (λ v. view v ≡ time_data time) }
 {
     match time {

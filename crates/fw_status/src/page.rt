@@ -2,7 +2,6 @@
 
 ghost use Rattle.std.specs.Prelude.{◌≡◌, ◌++◌, ℕ, List, codes, OnOk, string_bytes};
 ghost use Rattle.hex.specs.Hex.{encode_lower};
-ghost use Rattle.fw_rows.specs.Noted.{end_time, reason_of_end};
 ghost use Rattle.fw_status.specs.Campaigns.{AreTold};
 ghost use Rattle.fw_status.specs.Page.{
   IsCampaignHtml,
@@ -32,8 +31,8 @@ ghost use Rattle.fw_status.specs.Page.{
 
 use crate::campaign::{CampaignStatus, is_in};
 use crate::campaigns::append_time_if;
-use crate::rows::count_of;
-use fw_book::{End, Reason, RowState};
+use crate::rows::{count_of, reason_of, time_of};
+use fw_book::{Reason, RowState};
 use fw_rows::{NotedRow, append_failure, head_number, state_word};
 use std::alloc::{AllocError, Global};
 
@@ -325,25 +324,5 @@ fn append_words(text: &mut String, reason: Option<Reason>) -> Result<(), AllocEr
     match reason {
         Some(reason) => append_failure(text, reason),
         None => Ok(()),
-    }
-}
-
-/// When a row ended, if that is known.
-fn time_of(end: Option<End>) -> Option<u64>
-    ensures { result ≡ end_time end }
-{
-    match end {
-        Some(end) => Some(end.at),
-        None => None,
-    }
-}
-
-/// Why a row failed, if that is known.
-fn reason_of(end: Option<End>) -> Option<Reason>
-    ensures { result ≡ reason_of_end end }
-{
-    match end {
-        Some(end) => end.reason,
-        None => None,
     }
 }

@@ -1,14 +1,16 @@
 //! The rows of a book as a table, as comma-separated values and as JSON.
 
-ghost use Rattle.std.specs.Prelude.{◌≡◌, ◌++◌, IfOk, OnOk, string_bytes};
+ghost use Rattle.std.specs.Prelude.{◌≡◌, ◌++◌, map, IfOk, OnOk, string_bytes};
 ghost use Rattle.serde_json.specs.View.{view};
 ghost use Rattle.serde_json.specs.Written.{compact_text};
+ghost use Rattle.fw_rows.specs.Noted.{end_time, noted_data, reason_data, reason_of_end};
 ghost use Rattle.fw_status.specs.Rows.{count_of, counts_line, rows_csv, rows_data, rows_json, rows_table};
 
 use crate::campaign::is_in;
-use fw_book::RowState;
+use crate::campaigns::time_value;
+use fw_book::{End, Reason, RowState};
 use fw_rows::table::ROW_HEADINGS;
-use fw_rows::{NotedRow, append_noted, append_noted_csv, push_noted_values};
+use fw_rows::{NotedRow, append_failure, append_noted, append_noted_csv, state_word};
 use serde_json::{Value, json};
 use std::alloc::{AllocError, Global};
 
@@ -90,4 +92,68 @@ fn rows_value(alloc: Global, rows: &[NotedRow]) -> Result<Value, AllocError>
         "live": count_of(rows, RowState::Live),
         "rows": Value::Array(values),
     })
+}
+
+/// Adds the value of each row.
+fn push_noted_values(
+    alloc: Global,
+    values: &mut Vec<Value>,
+    rows: &[NotedRow],
+) -> Result<(), AllocError>
+    ensures { OnOk result (map view values.new.items ≡ map view values.old.items ++ map (λ row. noted_data row) rows.now) }
+{
+    for row in rows {
+        values.push(noted_value(alloc, row)?)?;
+    }
+    Ok(())
+}
+
+/// The value of a row: null stands for what isn't known.
+fn noted_value(alloc: Global, noted: &NotedRow) -> Result<Value, AllocError>
+    ensures { IfOk result (λ v. view v ≡ noted_data noted.now) }
+{
+    let ended = time_value(alloc, time_of(noted.end))?;
+    let opened = time_value(alloc, noted.opened)?;
+    let reason = reason_value(alloc, reason_of(noted.end))?;
+    json!(in alloc; {
+        "campaign": noted.row.serial,
+        "ended": ended,
+        "head": noted.row.head,
+        "meter": noted.row.meter,
+        "opened": opened,
+        "reason": reason,
+        "state": state_word(noted.row.state),
+    })
+}
+
+/// The value of a reason, and null for one that isn't known.
+fn reason_value(alloc: Global, reason: Option<Reason>) -> Result<Value, AllocError>
+    ensures { IfOk result (λ v. view v ≡ reason_data reason) }
+{
+    let Some(reason) = reason else {
+        return Ok(Value::Null);
+    };
+    let mut text = String::new(alloc);
+    append_failure(&mut text, reason)?;
+    json!(in alloc; text.as_str())
+}
+
+/// When a row ended, if that is known.
+pub(crate) fn time_of(end: Option<End>) -> Option<u64>
+    ensures { result ≡ end_time end }
+{
+    match end {
+        Some(end) => Some(end.at),
+        None => None,
+    }
+}
+
+/// Why a row failed, if that is known.
+pub(crate) fn reason_of(end: Option<End>) -> Option<Reason>
+    ensures { result ≡ reason_of_end end }
+{
+    match end {
+        Some(end) => end.reason,
+        None => None,
+    }
 }

@@ -4,7 +4,7 @@ use Rattle.std.specs.Int.{w32, to_be_bytes}
 use Rattle.std.proofs.Common.{refl, sym, ap, ◌∙◌, inl, inr, arith}
 use Rattle.std.proofs.lemmas.Bool.{cases_lt}
 use Rattle.std.proofs.lemmas.List.{length-take, take-take, take_all}
-use Rattle.fw_undo.specs.Write.{mark}
+use Rattle.fw_cuts.specs.Write.{mark, max_journal}
 use Rattle.fw_store.specs.Setup.{IsCapacity}
 use Rattle.fw_store.specs.StoreBytes.{store_size}
 use Rattle.fw_store.specs.declared.version.HeaderVersion.TheVariants.{Two}
@@ -19,14 +19,10 @@ pub record BeginsStore (capacity : ℕ) (bytes : List ℕ) : Type 0 where
 abbrev pub IsBegunStore : List ℕ → Type 0
 IsBegunStore bytes = (length bytes ≤ 4) ⊎ ((capacity : ℕ) × BeginsStore capacity bytes)
 
--- the greatest length of an undo file
-abbrev pub most_undo : ℕ
-most_undo = 8260
-
 -- What a power cut leaves of an undo file: no more bytes than one has, and in front its mark, or zeros if its first sector is not
 -- written yet, as far as they go.
 pub record IsUndoFile (bytes : List ℕ) : Type 0 where
-  pub most : length bytes ≤ most_undo
+  pub most : length bytes ≤ max_journal
   pub front : (take 4 bytes ≡ take (length bytes) mark) ⊎ (take 4 bytes ≡ take (length bytes) (replicate 4 0))
 
 -- bytes that begin as this form, as far as they go, do so where they are cut
@@ -90,7 +86,7 @@ none_is_undo bytes none =
 
 pub front_is_undo : (count : ℕ) (bytes : List ℕ) → IsUndoFile bytes → IsUndoFile (take count bytes)
 front_is_undo count bytes is =
-    let most : length bytes ≤ 8260 = is.most in
+    let most : length bytes ≤ max_journal = is.most in
     record {
       most = omega (arith, length-take count bytes);
       front = elim is.front [

@@ -4,6 +4,7 @@ use Rattle.fw_store.specs.Device.{Device, slot_bytes}
 use Rattle.fw_store.specs.Known.{Known}
 use Rattle.fw_store.specs.Versions.{bytes_of}
 use Rattle.fw_store.specs.Fuse.{lets_through, burnt}
+use Rattle.fw_store.specs.Setup.{IsCapacity}
 use Rattle.fw_store.specs.declared.fuse.Fuse.{Fuse}
 use Rattle.fw_store.specs.declared.slot.Slot.{Slot}
 use Rattle.fw_store.specs.declared.slot.Slot.TheVariants.{First, Second}
@@ -43,6 +44,10 @@ known_of m = record {
 pub slot_size : (m : MemoryStore) (slot : Slot) → length (slot_bytes (device_of m) slot) ≡ capacity_of m
 slot_size m First = m.first_size
 slot_size m Second = m.second_size
+
+-- and the capacity is one that an image can have
+pub room_of : (m : MemoryStore) → IsCapacity (capacity_of m)
+room_of m = m.room
 
 -- when a call of the device succeeds, and what it leaves of the fuse
 pub record IsFused (old new : MemoryStore) (succeeds : Bool) : Type 0 where

@@ -10,20 +10,14 @@ ghost use Rattle.fw_store.specs.Beside.{BeginsStore, IsBegunStore, IsUndoFile};
 ghost use Rattle.fw_store.specs.Making.{IsInTheWay, IsNotOurs, TakesRoom, begun_bytes};
 
 use crate::device_store::number;
-use crate::setup::is_capacity;
 use crate::tail::store_size;
 use crate::version::HeaderVersion;
+use fw_blocks::is_image_size;
+use fw_cuts::undo::{MARK, MARK_SIZE, MAX_JOURNAL_SIZE};
 use fw_disk::{Cause, Folder, Found, Kind, Name, Reason, abandon, begin, open_companion, reserve};
-use fw_undo::MAX_JOURNAL_SIZE;
 
 /// How many bytes of a store are its capacity. They are written and synced before all others.
 const CAPACITY_SIZE: usize = 4;
-
-/// How many bytes an undo file is told by.
-const MARK_SIZE: usize = 4;
-
-/// What an undo file begins with.
-const MARK: [u8; MARK_SIZE] = *b"FWU1";
 
 /// A store that is made, whole or in part.
 #[derive(Clone, Copy)]
@@ -81,7 +75,7 @@ fn begins_store(bytes: [u8; CAPACITY_SIZE], len: u64) -> bool
     ensures { (all : List ℕ) → take 4 all ≡ bytes → len ≡ length all → (IsTrue result ↔ ((capacity : ℕ) × BeginsStore capacity all)) }
 {
     let capacity = number(bytes);
-    is_capacity(capacity) && len <= store_size(HeaderVersion::Two, capacity)
+    is_image_size(capacity) && len <= store_size(HeaderVersion::Two, capacity)
 }
 
 /// Whether a file, of which this is the front, begins as this form, as far as it goes.

@@ -49,14 +49,13 @@ ghost use Rattle.fw_store.specs.declared.tail.Tail.{Tail};
 
 use crate::device::{ByteDevice, DeviceFault};
 use crate::error::{FileStoreError, StoreFault};
-use crate::setup::{fresh_bytes, is_capacity, is_setup};
+use crate::setup::{fresh_bytes, is_setup};
 use crate::slot::Slot;
 use crate::store::ImageStore;
-use crate::tail::{FRONT_SIZE, SLOTS_AT, Tail, store_size, tail_at};
+use crate::tail::{HEADER_AT, SLOTS_AT, Tail, store_size, tail_at};
 use crate::version::{HeaderBytes, HeaderVersion, VERSION_ONE_SIZE, VERSION_TWO_SIZE};
-
-/// Where the header begins: behind the capacity.
-const HEADER_AT: u64 = 4;
+use fw_blocks::is_image_size;
+use fw_cuts::FRONT_SIZE;
 
 /// A store that a device of bytes holds: its capacity in four bytes, high byte first, the first 614 bytes of the header, the first slot
 /// and the second one, and the other bytes of the header: the releases, and in version 2 the marks of the blocks from 4,096 on. A store
@@ -87,7 +86,7 @@ impl Found {
         ensures size { IfSome result (λ found. len ≡ stored_size found.tail found.capacity) }
         ensures none { IfNone result (IsCapacity capacity → (tail : Tail) → len ≢ stored_size tail capacity) }
     {
-        if !is_capacity(capacity) {
+        if !is_image_size(capacity) {
             return None;
         }
         let tail = Tail::of_len(len, capacity)?;

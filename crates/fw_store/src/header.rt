@@ -57,12 +57,13 @@ ghost use Rattle.fw_store.specs.Header.{
 use crate::slot::Slot;
 use crate::version::{HeaderBytes, HeaderVersion, VERSION_ONE_SIZE, VERSION_TWO_SIZE};
 use fw_blocks::{Geometry, MARKS_SIZE, MAX_BLOCK_SIZE, Pages};
+use fw_cuts::FRONT_SIZE;
 use fw_names::{ImageName, NameBytes, is_risen};
 
 /// Where the marks of the first 4,096 blocks stand, and the releases after them.
 const MARKS_AT: usize = 102;
 
-const RELEASES_AT: usize = 614;
+const RELEASES_AT: usize = FRONT_SIZE;
 
 /// The bytes of these marks.
 const FIRST_MARKS_SIZE: usize = 512;

@@ -28,9 +28,10 @@ pub use file::{FileDevice, FileStore};
 pub use fuse::Fuse;
 pub use header::{Goal, Header, StoredStatus};
 pub use memory::MemoryStore;
-pub use setup::{MAX_CAPACITY, is_setup};
+pub use setup::is_setup;
 pub use slot::Slot;
 pub use store::ImageStore;
+pub use tail::{HEADER_AT, SLOTS_AT};
 pub use version::{
     HeaderBytes, HeaderVersion, MAX_HEADER_SIZE, VERSION_ONE_SIZE, VERSION_TWO_SIZE,
 };

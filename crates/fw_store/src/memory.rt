@@ -4,6 +4,7 @@ ghost use Rattle.std.specs.Prelude.{◌≡◌, ◌+◌, ◌≤◌, length, IfOk,
 ghost use Rattle.fw_store.specs.Device.{slot_bytes, with_head, written, Torn};
 ghost use Rattle.fw_store.specs.Faults.{Keeps, HasCause, Spends};
 ghost use Rattle.fw_store.specs.Fuse.{half_torn};
+ghost use Rattle.fw_store.specs.Setup.{IsCapacity};
 ghost use Rattle.fw_store.specs.Versions.{bytes_of};
 
 use crate::error::{SetupError, StoreFault};
@@ -25,6 +26,7 @@ pub struct MemoryStore {
     fuse: Option<Fuse>,
     ghost first_size: { length first.items ≡ capacity },
     ghost second_size: { length second.items ≡ capacity },
+    ghost room: { IsCapacity capacity },
 }
 
 // Written out, so that letting go of it is one call in a proof. A derived `Drop` is unfolded there field by field, which takes minutes.
@@ -45,7 +47,7 @@ impl MemoryStore {
     ghost use Rattle.std.specs.Prelude.{◌↔◌, IsTrue, IsErrOf, Some, None};
     ghost use Rattle.fw_store.specs.Setup.{IsSetup};
     ghost use Rattle.fw_store.specs.Fresh.{fresh_device};
-    ghost use Rattle.fw_store.specs.Memory.{device_of, capacity_of, faults_of, fuse_of, KeepsAllButFuse, IsSame};
+    ghost use Rattle.fw_store.specs.Memory.{device_of, capacity_of, faults_of, fuse_of, known_of, KeepsAllButFuse, IsSame};
 
     /// A new store, with a header of version 2: the factory image is in its first slot, with zeros after it and in the other one.
     /// `capacity` is the size of a slot in bytes, 1 to 16,777,216, and `block_size` that of a block, 1 to 1,024. The image has 1 to
@@ -125,6 +127,61 @@ impl MemoryStore {
             second,
             fault_count: 0,
             fuse: None,
+        })
+    }
+
+    /// A store with this header and these slots, each of as many bytes as the capacity. No fuse is set.
+    ///
+    /// # Errors
+    ///
+    /// `AllocError` if memory was refused.
+    pub fn of(
+        alloc: Global,
+        capacity: u32,
+        head: &HeaderBytes,
+        first: &[u8],
+        second: &[u8],
+    ) -> Result<MemoryStore, AllocError>
+        requires room { IsCapacity capacity }
+        requires first { length first.now ≡ capacity }
+        requires second { length second.now ≡ capacity }
+        ensures device { IfOk result (λ m. device_of m
+            ≡ record { head = bytes_of head.now; first = first.now; second = second.now }) }
+        ensures size { IfOk result (λ m. capacity_of m ≡ capacity) }
+        ensures unfused { IfOk result (λ m. fuse_of m ≡ None) }
+        ensures faultless { IfOk result (λ m. faults_of m ≡ 0) }
+    {
+        let head = Box::new(alloc, *head).map_err(AllocError::from)?;
+        let first = first.to_vec(alloc)?;
+        let second = second.to_vec(alloc)?;
+        Ok(MemoryStore {
+            capacity,
+            head,
+            first,
+            second,
+            fault_count: 0,
+            fuse: None,
+        })
+    }
+
+    /// The same store once more, with its fuse and its count of faults. That is no call of the device.
+    ///
+    /// # Errors
+    ///
+    /// `AllocError` if memory was refused.
+    pub fn copy(&self, alloc: Global) -> Result<MemoryStore, AllocError>
+        ensures { IfOk result (λ copy. known_of copy ≡ known_of self.now) }
+    {
+        let head = Box::new(alloc, *self.head).map_err(AllocError::from)?;
+        let first = self.first.as_slice().to_vec(alloc)?;
+        let second = self.second.as_slice().to_vec(alloc)?;
+        Ok(MemoryStore {
+            capacity: self.capacity,
+            head,
+            first,
+            second,
+            fault_count: self.fault_count,
+            fuse: self.fuse,
         })
     }
 

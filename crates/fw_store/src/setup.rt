@@ -1,19 +1,16 @@
 //! What a store can be made with, and its first header.
 
-ghost use Rattle.std.specs.Prelude.{◌≡◌, ◌≤◌, ◌<◌, ◌^◌, ◌↔◌, IsTrue, length};
+ghost use Rattle.std.specs.Prelude.{◌≡◌, ◌<◌, ◌^◌, ◌↔◌, IsTrue, length};
 ghost use Rattle.fw_names.specs.Name.{factory_name};
 ghost use Rattle.fw_store.specs.Header.{fresh_header};
 ghost use Rattle.fw_store.specs.Layout.{header_bytes};
-ghost use Rattle.fw_store.specs.Setup.{IsCapacity, IsSetup};
+ghost use Rattle.fw_store.specs.Setup.{IsSetup};
 ghost use Rattle.fw_store.specs.Versions.{bytes_of, header_size, version_of};
 
 use crate::header::Header;
 use crate::version::{HeaderBytes, HeaderVersion};
-use fw_blocks::MAX_BLOCK_SIZE;
+use fw_blocks::{MAX_BLOCK_SIZE, is_image_size};
 use fw_names::factory_name;
-
-/// The largest image, in bytes: 16 MiB, which is 16,384 of the largest blocks.
-pub const MAX_CAPACITY: u32 = 16_777_216;
 
 /// Whether a store with a header of this version can be made with slots of `capacity` bytes, blocks of `block_size`, and this factory image,
 /// as `MemoryStore::new` and `MemoryStore::new_old` say.
@@ -21,15 +18,8 @@ pub fn is_setup(version: HeaderVersion, capacity: u32, block_size: u32, factory:
     ensures { IsTrue result ↔ IsSetup version block_size capacity factory.now }
 {
     let block_fits = (1..=MAX_BLOCK_SIZE).contains(&block_size);
-    let room_fits = is_capacity(capacity) && capacity <= version.capacity_limit();
+    let room_fits = is_image_size(capacity) && capacity <= version.capacity_limit();
     block_fits && room_fits && !factory.is_empty() && factory.len() <= capacity as usize
-}
-
-/// Whether a store can have slots of this size.
-pub(crate) fn is_capacity(capacity: u32) -> bool
-    ensures { IsTrue result ↔ IsCapacity capacity }
-{
-    (1..=MAX_CAPACITY).contains(&capacity)
 }
 
 /// The bytes of the header of this version of a new store with this factory image.

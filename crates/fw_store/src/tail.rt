@@ -6,12 +6,13 @@ ghost use Rattle.fw_store.specs.StoreBytes.{old_store_size, store_size};
 ghost use Rattle.fw_store.specs.declared.tail.Tail.{Tail};
 
 use crate::version::HeaderVersion;
+use fw_cuts::FRONT_SIZE;
 
-/// Where the first slot begins: after the capacity and the first 614 bytes of the header.
-pub(crate) const SLOTS_AT: u64 = 618;
+/// Where the header begins: after the capacity.
+pub const HEADER_AT: u64 = 4;
 
-/// How many bytes of a header stand before the slots. The others stand after them.
-pub(crate) const FRONT_SIZE: usize = 614;
+/// Where the first slot begins: after the capacity and the first 614 bytes of the header. The others stand after the slots.
+pub const SLOTS_AT: u64 = HEADER_AT + FRONT_SIZE as u64;
 
 /// What stands there.
 #[derive(Clone, Copy)]

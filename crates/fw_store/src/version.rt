@@ -1,6 +1,7 @@
 //! The two versions of a header, and the bytes of either.
 
 ghost use Rattle.std.specs.Prelude.{◌≡◌, ◌+◌, ◌≤◌, false, length, take, drop, replicate};
+ghost use Rattle.fw_blocks.specs.Cuts.{max_blocks};
 ghost use Rattle.fw_store.specs.Layout.{form};
 ghost use Rattle.fw_store.specs.Setup.{capacity_limit};
 ghost use Rattle.fw_store.specs.Versions.{block_limit, bytes_of, header_size, version_of};
@@ -32,7 +33,7 @@ impl HeaderVersion {
     /// How many blocks it has marks for: the most that an image may have in a store with such a header.
     pub fn block_limit(self) -> u32
         ensures value { result ≡ block_limit self }
-        ensures most { result ≤ MAX_BLOCKS }
+        ensures most { result ≤ max_blocks }
     {
         match self {
             HeaderVersion::One => FIRST_LIMIT,

@@ -1,7 +1,7 @@
 -- Public vocabulary: a store in memory that was read from bytes, and a meter over one.
 use Rattle.std.specs.Prelude.{◌≡◌, ℕ, IsTrue, List, None}
-use Rattle.fw_undo.specs.Write.{Write, IsWrite, journal_bytes}
-use Rattle.fw_undo.specs.Cut.{IsTornIn}
+use Rattle.fw_cuts.specs.Write.{Write, IsWrite, journal_bytes}
+use Rattle.fw_cuts.specs.Sectors.{IsTornIn}
 use Rattle.fw_store.specs.Memory.{capacity_of, device_of, fuse_of}
 use Rattle.fw_store.specs.StoreBytes.{IsStore, device_at}
 use Rattle.fw_store.specs.declared.memory.MemoryStore.{MemoryStore}

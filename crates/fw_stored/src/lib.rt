@@ -10,7 +10,7 @@ mod error;
 mod meter;
 mod recovery;
 
-pub use bytes::{copy_of, store_of};
+pub use bytes::store_of;
 pub use error::{RecoveryError, StoredError};
 pub use meter::{at_rest, into_store, started_again, started_twice};
 pub use recovery::recovered;

@@ -4,10 +4,8 @@ ghost use Rattle.std.specs.Prelude.{◌≡◌, IfOk, IsTrue, None};
 ghost use Rattle.fw_image.specs.Meter.{Meter, IsTrusted, migrated, reopened, restarted};
 ghost use Rattle.fw_image.specs.Stored.{IsMeterOf};
 ghost use Rattle.fw_store.specs.Memory.{capacity_of, device_of, fuse_of};
-ghost use Rattle.fw_store.specs.Setup.{IsCapacity};
 ghost use Rattle.fw_stored.specs.Stored.{IsSound};
 
-use crate::bytes::copy_of;
 use fw_meter::MeterCore;
 use fw_store::MemoryStore;
 use std::alloc::{AllocError, Global};
@@ -20,15 +18,9 @@ pub fn into_store(meter: MeterCore<MemoryStore>) -> MemoryStore
     ensures size { capacity_of result ≡ meter.meter.capacity }
     ensures unfused { fuse_of result ≡ None }
 {
-    let mut meter = meter;
-    meter.fuse(0, 0);
-    match meter.restart() {
-        Ok(_) => unreachable!(),
-        Err((_, mut store)) => {
-            store.unfuse();
-            store
-        }
-    }
+    let mut store = meter.into_store();
+    store.unfuse();
+    store
 }
 
 /// The meter in the store that a stopped meter leaves, as it lies there: its header stays in its version.
@@ -59,14 +51,13 @@ pub fn started_twice(
     alloc: Global,
     meter: MeterCore<MemoryStore>,
 ) -> Result<(MeterCore<MemoryStore>, MeterCore<MemoryStore>), AllocError>
-    requires { IsCapacity meter.meter.capacity }
     ensures first { IfOk result (λ both. both.0.meter ≡ restarted meter.meter) }
     ensures second { IfOk result (λ both. both.1.meter ≡ restarted meter.meter) }
     ensures first_sound { IfOk result (λ both. IsSound both.0) }
     ensures second_sound { IfOk result (λ both. IsSound both.1) }
 {
-    let mut store = into_store(meter);
-    let copy = copy_of(alloc, &mut store)?;
+    let store = into_store(meter);
+    let copy = store.copy(alloc)?;
     Ok((started(store), started(copy)))
 }
 

@@ -1,22 +1,16 @@
 //! What an opening makes of the bytes of a store, in memory.
 
 ghost use Rattle.std.specs.Prelude.{◌≡◌, ◌+◌, ◌≤◌, ◌↔◌, false, length, take, IfOk, IsErrOf, IsTrue, OnErr, OnOk};
-ghost use Rattle.fw_undo.specs.Write.{IsWrite};
-ghost use Rattle.fw_undo.specs.Cut.{IsTornIn, Mends, before_of};
+ghost use Rattle.fw_cuts.specs.Write.{IsWrite};
+ghost use Rattle.fw_cuts.specs.Sectors.{IsTornIn, Mends, before_of};
 ghost use Rattle.fw_cuts.specs.Rest.{IsRecovered};
 ghost use Rattle.fw_store.specs.Beside.{IsUndoFile};
 ghost use Rattle.fw_store.specs.Device.{splice};
 ghost use Rattle.fw_stored.specs.Stored.{IsTornBy};
 
 use crate::error::RecoveryError;
-use fw_undo::{HeaderWrite, MAX_JOURNAL_SIZE, MAX_PART_SIZE};
+use fw_cuts::undo::{HeaderWrite, MARK, MARK_SIZE, MAX_JOURNAL_SIZE, MAX_PART_SIZE};
 use std::alloc::AllocError;
-
-/// How many bytes an undo file is told by.
-const MARK_SIZE: usize = 4;
-
-/// What an undo file begins with.
-const MARK: [u8; MARK_SIZE] = *b"FWU1";
 
 /// The bytes of a store as an opening makes them by those of its undo file: where these are a whole journal and the header write was cut,
 /// that is taken back, and otherwise the store's bytes stay. A store without an undo file is one with an empty one.
@@ -48,7 +42,8 @@ pub fn recovered(store: Vec<u8>, undo: &[u8]) -> Result<Vec<u8>, RecoveryError>
 fn is_undo_file(bytes: &[u8]) -> bool
     ensures { IsTrue result ↔ IsUndoFile bytes.now }
 {
-    bytes.len() <= MAX_JOURNAL_SIZE && (begins_as(bytes, &MARK) || begins_as(bytes, &[0; 4]))
+    bytes.len() <= MAX_JOURNAL_SIZE
+        && (begins_as(bytes, &MARK) || begins_as(bytes, &[0; MARK_SIZE]))
 }
 
 /// Whether bytes begin as this form, as far as they go.

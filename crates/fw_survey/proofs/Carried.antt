@@ -4,6 +4,7 @@ use Rattle.std.specs.Prelude.{◌==◌, if◌then◌else◌}
 use Rattle.std.proofs.lemmas.Bool.{eqb-true}
 use Rattle.std.proofs.lemmas.Option.{none-some, same_Some}
 use Rattle.fw_wrapper.specs.Laws as wrapper
+use Rattle.fw_wrapper.specs.Wrapper.{wport}
 use Rattle.fw_apdu.specs.Laws as apdu
 use Rattle.fw_apdu.specs.Response.{ResponseContent, get_response, SpellsResponse}
 use Rattle.fw_apdu.specs.View.{response_content, response_invoke}
@@ -47,7 +48,7 @@ pub record SameResponse (i j : ℕ) (r t : ResponseContent) : Type 0 where
 
 one_carried : wrapper.OneFrame → apdu.OneResponse → (datagram : List ℕ) (i j : ℕ) (r t : ResponseContent) → CarriesResponse datagram i r → CarriesResponse datagram j t → SameResponse i j r t
 one_carried frames responses datagram i j r t h k =
-    let same = (frames datagram h.apdu k.apdu 1 1 1 1 h.wraps k.wraps).2 in
+    let same = (frames datagram h.apdu k.apdu wport wport wport wport h.wraps k.wraps).2 in
     let both = responses k.apdu i j r t (subst (λ (s : List ℕ). SpellsResponse s i r) same h.spells) k.spells in
     record { bytes = both.0; contents = both.1 }
 

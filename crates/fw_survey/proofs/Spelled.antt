@@ -8,7 +8,7 @@ use Rattle.fw_apdu.specs.declared.error.ApduError.TheVariants.{Truncated, Unknow
 use Rattle.fw_apdu.specs.Fault.{IfFault, IfMemory, IsBadData}
 use Rattle.fw_apdu.specs.Request.{RequestContent, get_request, request_bytes, unwritable_request}
 use Rattle.fw_apdu.specs.Response.{MayReturnData}
-use Rattle.fw_wrapper.specs.Wrapper.{Wraps, max_apdu}
+use Rattle.fw_wrapper.specs.Wrapper.{Wraps, max_apdu, wport}
 use Rattle.fw_survey.specs.Answers.{MayCarryData}
 use Rattle.fw_survey.specs.Questions.{attribute_of, invoke_byte}
 use Rattle.fw_survey.specs.declared.question.Question.{Question}
@@ -36,10 +36,10 @@ pub refused_for_memory : (r : Result (Vec ℕ) ApduError) (k : RequestContent) (
 refused_for_memory (Ok v) k q content refused = tt
 refused_for_memory (Err e) k q content refused = no_fault e (ap unwritable_request content) refused
 
--- a datagram from and to port 1 carries the Data that its APDU may return
-pub data_carried : (datagram apdu : List ℕ) (source dest : ℕ) (e : ApduError) → source ≡ 1 → dest ≡ 1 → Wraps datagram source dest apdu → e ≡ OutOfMemory
+-- a datagram from and to the wPort of both ends carries the Data that its APDU may return
+pub data_carried : (datagram apdu : List ℕ) (source dest : ℕ) (e : ApduError) → source ≡ wport → dest ≡ wport → Wraps datagram source dest apdu → e ≡ OutOfMemory
     → IfMemory e (MayReturnData apdu) → MayCarryData datagram
 data_carried datagram apdu source dest e from to wraps is takes =
-    let wraps' : Wraps datagram 1 dest apdu = subst (λ (p : ℕ). Wraps datagram p dest apdu) from wraps in
+    let wraps' : Wraps datagram wport dest apdu = subst (λ (p : ℕ). Wraps datagram p dest apdu) from wraps in
     let T : ApduError → Type 0 = λ x. IfMemory x (MayReturnData apdu) in
-    (apdu, subst (λ (p : ℕ). Wraps datagram 1 p apdu) to wraps', subst T is takes)
+    (apdu, subst (λ (p : ℕ). Wraps datagram wport p apdu) to wraps', subst T is takes)

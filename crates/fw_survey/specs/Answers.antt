@@ -4,7 +4,7 @@ use Rattle.std.specs.Prelude.{◌≡◌, ℕ, List}
 use Rattle.fw_axdr.specs.Value.{Value, boolean, double_long_unsigned, enumerated, octet_string}
 use Rattle.fw_apdu.specs.Response.{GetResult, value, code, get_response, MayReturnData, SpellsResponse}
 use Rattle.fw_names.specs.Name.{Name, SpellsName}
-use Rattle.fw_wrapper.specs.Wrapper.{Wraps}
+use Rattle.fw_wrapper.specs.Wrapper.{Wraps, wport}
 use Rattle.fw_survey.specs.Questions.{invoke_byte}
 use Rattle.fw_survey.specs.declared.answer.Answer.{Answer}
 use Rattle.fw_survey.specs.declared.answer.Answer.TheVariants as answer
@@ -55,7 +55,7 @@ Says q (code c) a = a ≡ answer.Refused c
 pub record Answers (datagram : List ℕ) (q : Question) (a : Answer) : Type 0 where
   pub apdu : List ℕ
   pub result : GetResult
-  pub wraps : Wraps datagram 1 1 apdu
+  pub wraps : Wraps datagram wport wport apdu
   pub spells : SpellsResponse apdu (invoke_byte q) (get_response result)
   pub says : Says q result a
 
@@ -66,4 +66,4 @@ pub record AnswersJust (datagram : List ℕ) (q : Question) (a : Answer) : Type 
 
 -- a datagram carries an APDU between the ports 1 that may return a Data that takes memory, whatever it spells
 abbrev pub MayCarryData : List ℕ → Type 0
-MayCarryData datagram = (apdu : List ℕ) × Wraps datagram 1 1 apdu × MayReturnData apdu
+MayCarryData datagram = (apdu : List ℕ) × Wraps datagram wport wport apdu × MayReturnData apdu

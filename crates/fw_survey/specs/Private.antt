@@ -3,7 +3,7 @@ use Rattle.std.specs.Prelude.{◌≡◌, ◌⊎◌, ℕ, List, Option, Some, Non
 use Rattle.fw_apdu.specs.View.{response_content, response_invoke}
 use Rattle.fw_apdu.specs.Response.{GetResult, ResponseContent, get_response, SpellsResponse}
 use Rattle.fw_apdu.specs.declared.response.Response.{Response}
-use Rattle.fw_wrapper.specs.Wrapper.{Wraps}
+use Rattle.fw_wrapper.specs.Wrapper.{Wraps, wport}
 use Rattle.fw_survey.specs.Questions.{invoke_byte}
 use Rattle.fw_survey.specs.Answers.{Answers, AnswersJust, Says}
 use Rattle.fw_survey.specs.Rows.{Row, taken_row}
@@ -14,7 +14,7 @@ use Rattle.fw_survey.specs.declared.question.Question.{Question}
 -- a datagram carries a response, with its invoke byte, between the ports 1
 pub record CarriesResponse (datagram : List ℕ) (invoke : ℕ) (content : ResponseContent) : Type 0 where
   pub apdu : List ℕ
-  pub wraps : Wraps datagram 1 1 apdu
+  pub wraps : Wraps datagram wport wport apdu
   pub spells : SpellsResponse apdu invoke content
 
 -- the response that a datagram carries, or there is none

@@ -3,7 +3,7 @@
 use Rattle.std.specs.Prelude.{ℕ, ℤ, ◌==◌, List, Option, Some, None, if◌then◌else◌}
 use Rattle.fw_apdu.specs.Cosem as cosem
 use Rattle.fw_apdu.specs.Request.{Descriptor, get_request, request_bytes}
-use Rattle.fw_wrapper.specs.Wrapper.{wrapped}
+use Rattle.fw_wrapper.specs.Wrapper.{wport, wrapped}
 use Rattle.fw_survey.specs.declared.question.Question.{Question}
 use Rattle.fw_survey.specs.declared.question.Question.TheVariants as question
 
@@ -33,4 +33,4 @@ question_of invoke =
 
 -- the datagram that asks a question: a GET, between the ports 1
 abbrev pub question_bytes : Question → List ℕ
-question_bytes q = wrapped 1 1 (request_bytes (invoke_byte q) (get_request (attribute_of q)))
+question_bytes q = wrapped wport wport (request_bytes (invoke_byte q) (get_request (attribute_of q)))

@@ -8,13 +8,10 @@ ghost use Rattle.fw_survey.specs.Questions.{attribute_of, invoke_byte, question_
 use crate::error::OutOfMemory;
 use crate::question::Question;
 use fw_apdu::{ApduError, write_request};
-use fw_wrapper::{WrapError, join};
+use fw_wrapper::{WPORT, WrapError, join};
 use std::alloc::Global;
 
-/// The wPort of both ends.
-pub(crate) const PORT: u16 = 1;
-
-/// The datagram that asks a question, from and to wPort 1 (IEC 62056-4-7).
+/// The datagram that asks a question, from and to the wPort of both ends (IEC 62056-4-7).
 pub(crate) fn datagram(alloc: Global, question: Question) -> Result<Vec<u8>, OutOfMemory>
     ensures { IfOk result (λ datagram. datagram.items ≡ question_bytes question) }
 {
@@ -23,7 +20,7 @@ pub(crate) fn datagram(alloc: Global, question: Question) -> Result<Vec<u8>, Out
         Err(ApduError::OutOfMemory) => return Err(OutOfMemory),
         Err(_) => unreachable!(),
     };
-    match join(alloc, PORT, PORT, &apdu) {
+    match join(alloc, WPORT, WPORT, &apdu) {
         Ok(datagram) => Ok(datagram),
         Err(WrapError::OutOfMemory) => Err(OutOfMemory),
         Err(_) => unreachable!(),

@@ -10,14 +10,11 @@ ghost use Rattle.fw_survey.specs.Survey.{IsSurvey, KeepsMeters, addresses_of, ro
 use crate::error::Stop;
 use crate::serving::{Timer, survey_meters};
 use crate::survey::Survey;
-use fw_port::{Closed, Datagram, Deed, ListPort, NoReport, Rule};
+use fw_port::{Closed, Datagram, Deed, ListPort, NoReport, Rule, TICK};
 use std::alloc::Global;
 use std::sync::Wait;
 
-/// How much later it is each time, in microseconds.
-const TICK: u64 = 1_000;
-
-/// A clock that is a millisecond later each time.
+/// A clock that is as much later each time as that of a port in memory, a millisecond.
 #[derive(Drop)]
 struct Ticking {
     time: u64,

@@ -8,13 +8,12 @@ ghost use Rattle.fw_survey.specs.Answers.{IsActive, IsBlockSize, IsEnabled, IsNa
 ghost use Rattle.fw_survey.specs.Private.{FindsAnswer, FindsBy, IsResponseIn};
 
 use crate::answer::Answer;
-use crate::asking::PORT;
 use crate::error::OutOfMemory;
 use crate::question::Question;
 use fw_apdu::{ApduError, GetDataResult, Invoke, Response, read_response};
 use fw_axdr::Data;
 use fw_names::ImageName;
-use fw_wrapper::split;
+use fw_wrapper::{WPORT, split};
 use std::alloc::Global;
 
 /// The question that a datagram answers, with the answer, if it carries one between the ports of both ends.
@@ -45,7 +44,7 @@ fn response_in(alloc: Global, datagram: &[u8]) -> Result<Option<Response>, OutOf
     let Ok(frame) = split(datagram) else {
         return Ok(None);
     };
-    if frame.source != PORT || frame.dest != PORT {
+    if frame.source != WPORT || frame.dest != WPORT {
         return Ok(None);
     }
     match read_response(alloc, frame.apdu) {

@@ -8,7 +8,8 @@ ghost use Rattle.fw_survey.specs.Survey.{IsSurvey, MaySurveyOver, SurveysOver, r
 use crate::asking::datagram;
 use crate::error::Stop;
 use crate::survey::Survey;
-use fw_port::{Closed, MAX_RECEIVED, NoReport, Patience, Port};
+use fw_port::{Closed, NoReport, Patience, Port};
+use fw_wrapper::MAX_RECEIVED;
 use std::alloc::Global;
 use std::sync::Wait;
 

@@ -6,11 +6,8 @@ ghost use Rattle.fw_wrapper.specs.Wrapper.{max_apdu, wrapped};
 ghost use Rattle.fw_unseal.specs.Unsealing.{LooksPlain, LooksSealed, OpensNot, OpensTo};
 
 use fw_seal::{Link, OpenError, Opened, shown_counter};
-use fw_wrapper::{join_in, split};
+use fw_wrapper::{HEADER_SIZE, join_in, split};
 use std::alloc::{AllocError, Global};
-
-/// The bytes of the wrapper's header.
-const HEADER_SIZE: usize = 8;
 
 /// A sealed datagram that was opened.
 #[derive(Drop)]

@@ -11,6 +11,7 @@ ghost use Rattle.fw_verify.specs.Slices.{slice_size, slice_count};
 
 use fw_store::{ImageStore, Slot, StoreFault, laws};
 use sha2::{Digest, Sha256};
+use std::alloc::AllocError;
 use std::marker::Model;
 
 /// The most bytes of a slot that are read at once.
@@ -51,6 +52,22 @@ impl Digesting {
             taken: 0,
             hasher: Sha256::new(),
         }
+    }
+
+    /// The same digest once more.
+    ///
+    /// # Errors
+    ///
+    /// `AllocError` if the copy of the hasher was refused.
+    pub fn copy(&self) -> Result<Digesting, AllocError>
+        ensures { IfOk result (λ copy. copy ≡ self.now) }
+    {
+        Ok(Digesting {
+            slot: self.slot,
+            size: self.size,
+            taken: self.taken,
+            hasher: self.hasher.clone()?,
+        })
     }
 
     /// How many bytes are taken.

@@ -1,7 +1,7 @@
 -- What an opening finds of a header write that was cut.
 use Rattle.std.proofs.Common.{◌≡◌, ◌⊎◌, ◌+◌, ◌≤◌, inl, inr, ⊎_elim, ℕ, List, length, take, drop, sym, ap, subst, ◌∙◌, arith, length-drop}
 use Rattle.std.proofs.lemmas.List.{length-take-le, take-append-drop}
-use Rattle.fw_undo.specs.Cut.{after_of}
+use Rattle.fw_cuts.specs.Sectors.{after_of}
 use Rattle.fw_cuts.specs.Both.{Both}
 use Rattle.fw_cuts.specs.Cuts.{Seen, Goes}
 use Rattle.fw_cuts.specs.Rest.{write_on, IsAtRest, IsChance, IsOldOrNew, IsRecovered}

@@ -2,7 +2,7 @@
 use Rattle.std.proofs.Common.{◌≡◌, ◌≢◌, ◌⊎◌, ℕ, ◌+◌, ◌-◌, ◌*◌, ◌≤◌, Bool, cond, eqb, List, ◌++◌, length, take, drop, slice_range, replicate, sym, ap, ◌∙◌, arith, inl, inr}
 use Rattle.std.proofs.lemmas.Bool.{ne_eqb}
 use Rattle.std.proofs.lemmas.List.{take-take, take-append-le}
-use Rattle.fw_undo.specs.Cut.{replaced}
+use Rattle.fw_cuts.specs.Sectors.{replaced}
 use Rattle.fw_cuts.specs.Cuts.{splice}
 use Rattle.fw_cuts.specs.Rest.{SameOutside}
 use Rattle.fw_cuts.proofs.Splices.{slice_of_take, slice_front, take-splice, drop-splice, front_size, length-replaced, replaced_last, replaced_front}

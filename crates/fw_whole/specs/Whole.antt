@@ -1,6 +1,6 @@
 -- Public vocabulary: a header write of a store in files that may be cut at any moment, and what the next opening finds.
 use Rattle.std.specs.Prelude.{◌≡◌, ◌⊎◌, ℕ, List, take, drop}
-use Rattle.fw_undo.specs.Write.{Write}
+use Rattle.fw_cuts.specs.Write.{Write}
 use Rattle.fw_cuts.specs.Both.{Both}
 use Rattle.fw_cuts.specs.Cuts.{Seen}
 use Rattle.fw_cuts.specs.Rest.{write_on, IsAtRest, IsChance}

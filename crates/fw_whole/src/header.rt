@@ -8,22 +8,13 @@ ghost use Rattle.fw_store.specs.StoreBytes.{IsStore, device_at, old_store_size};
 ghost use Rattle.fw_store.specs.Versions.{bytes_of};
 ghost use Rattle.fw_whole.specs.Whole.{IsFoundWhole, IsResting};
 
-use fw_cuts::{FilesFault, Scratch, StoreFiles, replace};
-use fw_store::HeaderBytes;
-
-/// Where the header begins: behind the capacity.
-const HEADER_AT: u64 = 4;
-
-/// Where the first slot begins: after the capacity and the first 614 bytes of the header.
-const SLOTS_AT: u64 = 618;
-
-/// How many bytes of a header stand before the slots. The others stand after them.
-const FRONT_SIZE: usize = 614;
+use fw_cuts::{FRONT_SIZE, FilesFault, Scratch, StoreFiles, replace};
+use fw_store::{HEADER_AT, HeaderBytes, SLOTS_AT};
 
 /// Replaces the header of a store in files, of either version, by one of either, as a store in a file does. `scratch` is any.
 ///
 /// Whenever the power is cut, in the call or after it, and whatever it answers, the next opening finds the store as before, or with all of
-/// the new header and the slots as they were read; after an `Ok` it finds the new header. Nothing stands after that.
+/// the new header and the slots as they were read; after an `Ok` it finds the latter. Nothing stands after that.
 ///
 /// # Errors
 ///
@@ -40,7 +31,8 @@ pub fn write_header<F: StoreFiles>(
     ensures rests { IsTrue F.honest → OnOk result (IsResting capacity (F.seen files.new)) }
     ensures stays { IsTrue F.honest → OnOk result ((left : Both) (made : List ℕ) → (F.seen files.new).may_leave left
         → IsRecovered left.journal left.store made
-        → IsStore made capacity × ((device_at capacity made).head ≡ bytes_of bytes.now)) }
+        → IsStore made capacity
+        × (device_at capacity made ≡ with_head (device_at capacity (F.seen files.old).held.store) (bytes_of bytes.now))) }
 
     // Whatever it answers, and whenever it is cut.
     ensures any_moment { IsTrue F.honest → (left : Both) (made : List ℕ)

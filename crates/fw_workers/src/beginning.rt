@@ -15,7 +15,7 @@ use fw_world::{Event, Setup, StepError, World};
 use std::alloc::Global;
 
 /// The greatest worker count of a rehearsal or a live rollout.
-const MAX_WORKERS: u32 = 8;
+pub const MAX_WORKERS: u32 = 8;
 
 /// The world after the given events, and an entry for each of them.
 #[derive(Drop)]

@@ -17,7 +17,7 @@ mod wired;
 mod wired_links;
 mod worker;
 
-pub use beginning::{Beginning, begin};
+pub use beginning::{Beginning, MAX_WORKERS, begin};
 pub use deal::dealt;
 pub use error::{RehearseError, RoundsError};
 pub use gate::Gate;

@@ -3,6 +3,7 @@
 
 ghost use Rattle.std.specs.Prelude.{◌≡◌, ◌≤◌, false, IsTrue, None, IfOk, IfErr, IfSome, IsErrOf, OnOk, OnErr};
 ghost use Rattle.std.specs.Option.{option_copied};
+ghost use Rattle.fw_blocks.specs.Width.{max_width};
 ghost use Rattle.fw_air.specs.Rounds.{stands_in};
 ghost use Rattle.fw_world.specs.Step.{deliver, tick};
 ghost use Rattle.fw_workers.specs.Ends.{ComesLast, IsOfEvent};
@@ -119,7 +120,7 @@ impl SharedWorld {
         requires { worker.old.board ≡ self.now.board.id }
         ensures board { worker.new.board ≡ worker.old.board }
         ensures made { IfOk result (λ sent. HasMade worker.old sent.event (tick head meter) worker.new) }
-        ensures most { IfOk result (λ sent. sent.count ≤ 15) }
+        ensures most { IfOk result (λ sent. sent.count ≤ max_width) }
         ensures unknown { desk_of self.now.desks.items head ≡ None → IsErrOf result RoundsError.Mismatch }
         ensures mismatch { IsErrOf result RoundsError.Mismatch
             → IfSome (desk_of self.now.desks.items head) (λ desk. stands_in desk.book meter ≡ false) }

@@ -4,8 +4,9 @@ ghost use Rattle.std.specs.Prelude.{◌≡◌, IfOk, IfErr};
 
 use crate::error::RoundsError;
 use crossbeam_channel::{Receiver, SendError, Sender, unbounded};
-use fw_air::{MAX_RECEIVED, Pass, Wire};
+use fw_air::{Pass, Wire};
 use fw_world::Direction;
+use fw_wrapper::MAX_RECEIVED;
 use std::alloc::{AllocError, Global};
 use std::sync::Wait;
 

@@ -3,7 +3,7 @@ use Rattle.std.proofs.Common.{◌≡◌, ℕ, Bool, true, false, IsTrue, List, [
 use Rattle.std.proofs.lemmas.List.Elements.{All-nil, All-cons}
 use Rattle.fw_names.specs.Laws as names
 use Rattle.fw_names.specs.Name.{Name, SpellsName}
-use Rattle.fw_wrapper.specs.Wrapper.{wrapped}
+use Rattle.fw_wrapper.specs.Wrapper.{wrapped, wport}
 use Rattle.fw_apdu.specs.Request.{RequestContent, SpellsRequest, is_confirmed}
 use Rattle.fw_apdu.specs.Response.{response_bytes}
 use Rattle.fw_server.specs.Meaning as meaning
@@ -93,13 +93,13 @@ module _ (sizes : JoinedSize) (one_name : names.OneName) (IsFirst : FirstNames) 
   pub reply_asks : (reply : Option (List ℕ)) (name : Option Name) (new : Meter) → Handles true IsTrue old d.bytes reply name new → All (InitiatesOffered offered) (replies d reply)
   reply_asks reply name new (inr h) = no_reply (InitiatesOffered offered) d reply h.silent
   reply_asks reply name new (inl h) =
-      each_reply (InitiatesOffered offered) d reply (is_confirmed h.invoke) (wrapped 1 h.source written) h.responds.replies
+      each_reply (InitiatesOffered offered) d reply (is_confirmed h.invoke) (wrapped wport h.source written) h.responds.replies
       (λ source invoke size content identifier brings e. absurd (no_request source invoke content brings))
     where
       written : List ℕ
       written = response_bytes h.invoke (response_of (outcome_in h.content h.responds.result))
 
-      no_request : (source invoke : ℕ) (content : RequestContent) → Brings (wrapped 1 h.source written) source invoke content → ⊥
+      no_request : (source invoke : ℕ) (content : RequestContent) → Brings (wrapped wport h.source written) source invoke content → ⊥
       no_request source invoke content brings =
           let same : brings.apdu ≡ written = one_apdu source 1 1 h.source brings.apdu written (sym brings.wraps.bytes) in
           asks_nothing h.invoke invoke h.content content h.responds.result (subst (λ (s : List ℕ). SpellsRequest s invoke content) same brings.spells)

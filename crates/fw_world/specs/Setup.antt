@@ -2,6 +2,7 @@
 use Rattle.std.specs.Prelude.{◌≡◌, ℕ, ◌≤◌, Bool, false, if◌then◌else◌, ◌==◌, ◌||◌, List, [], ◌∷◌, map, length, All}
 use Rattle.std.specs.List.{list_any}
 use Rattle.fw_blocks.specs.Width.{IsWidth}
+use Rattle.fw_book.specs.Contents.{max_meters}
 use Rattle.fw_store.specs.Setup as store
 use Rattle.fw_store.specs.declared.version.HeaderVersion.{HeaderVersion}
 use Rattle.fw_store.specs.declared.version.HeaderVersion.TheVariants.{One, Two}
@@ -24,12 +25,9 @@ number_of_head head = head.head
 abbrev pub number_of_meter : MeterSetup → ℕ
 number_of_meter meter = meter.meter
 
--- limits (own)
+-- a limit (own); a world has as many meters as a campaign can have
 abbrev pub max_heads : ℕ
 max_heads = 16
-
-abbrev pub max_meters : ℕ
-max_meters = 256
 
 -- the head end has a width
 abbrev pub HasWidth : HeadSetup → Type 0

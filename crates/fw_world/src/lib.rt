@@ -23,5 +23,5 @@ pub use event::Event;
 pub use meters::NumberedMeter;
 pub use parts::Parts;
 pub use runs::{RunError, run};
-pub use setup::{HeadSetup, MAX_HEADS, MAX_METERS, MeterSetup, Setup};
+pub use setup::{HeadSetup, MAX_HEADS, MeterSetup, Setup};
 pub use world::World;

@@ -5,6 +5,7 @@ ghost use Rattle.std.specs.List.{list_all};
 ghost use Rattle.std.specs.Map.{lookup};
 ghost use Rattle.std.specs.Option.{option_copied};
 ghost use Rattle.std.specs.Vec.{vec_len, vec_capacity};
+ghost use Rattle.fw_blocks.specs.Width.{max_width};
 ghost use Rattle.fw_head.specs.Head.{sends_to};
 ghost use Rattle.fw_head.specs.Row.{bytes_of};
 ghost use Rattle.fw_meter.specs.Handling.{AsksForResponse, MayBringData, MayWantMemory, reply_bytes};
@@ -16,13 +17,14 @@ use crate::activation::Activation;
 use crate::datagram::{Datagram, Direction};
 use crate::meters::Meters;
 use crate::world_meter::{Switched, WorldMeter};
+use fw_blocks::MAX_WIDTH;
 use fw_head::HeadCore;
 use fw_meter::{OutOfMemory, asks_for_response};
 use fw_names::{HeadId, MeterId};
 use std::alloc::{AllocError, Global};
 
 /// The most datagrams that a tick sends.
-const MAX_SENDS: usize = 15;
+const MAX_SENDS: usize = MAX_WIDTH as usize;
 
 /// Whether each of these meters is there.
 pub(crate) fn all_there(there: &Meters, meters: &[MeterId]) -> bool
@@ -47,7 +49,7 @@ pub(crate) fn room_to_send(
     meter: MeterId,
 ) -> Result<(), AllocError>
     ensures items { sent.new.items ≡ sent.old.items }
-    ensures room { OnOk result (length (sends_to head.now meter) ≤ 15
+    ensures room { OnOk result (length (sends_to head.now meter) ≤ max_width
         → vec_len sent.new + length (sends_to head.now meter) ≤ vec_capacity sent.new) }
     ensures memory { OnErr result (HasLiveRow head.now meter) }
 {

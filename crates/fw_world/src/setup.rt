@@ -6,14 +6,12 @@ ghost use Rattle.fw_blocks.specs.Width.{IsWidth};
 ghost use Rattle.fw_world.specs.Setup.{IsSetup, IsStored, number_of_head, number_of_meter, repeats, version_of};
 
 use fw_blocks::Width;
+use fw_book::MAX_METERS;
 use fw_names::{HeadId, MeterId};
 use fw_store::{HeaderVersion, is_setup};
 
 /// The most head ends of a world.
 pub const MAX_HEADS: usize = 16;
-
-/// The most meters of a world.
-pub const MAX_METERS: usize = 256;
 
 /// A head end of a world.
 #[derive(Clone, Copy, Drop)]
@@ -64,8 +62,8 @@ impl MeterSetup {
     }
 }
 
-/// What a world is made with: 1 to 16 head ends and 1 to 256 meters, in their order. The numbers of the head ends are distinct,
-/// and so are those of the meters.
+/// What a world is made with: 1 to 16 head ends and 1 to 256 meters, as many as a campaign can have, in their order. The numbers of the
+/// head ends are distinct, and so are those of the meters.
 #[derive(Drop)]
 pub struct Setup {
     pub heads: Vec<HeadSetup>,

@@ -1,6 +1,6 @@
 -- The laws of wrapped APDUs.
-use Rattle.std.specs.Prelude.{◌≡◌, ℕ, ◌<◌, List, All, None}
-use Rattle.fw_wrapper.specs.Wrapper.{Wraps, fault_of}
+use Rattle.std.specs.Prelude.{◌≡◌, ℕ, ◌<◌, List, length, All, None}
+use Rattle.fw_wrapper.specs.Wrapper.{Wraps, fault_of, max_received}
 
 -- a byte string wraps at most one APDU, between one pair of wPorts
 abbrev pub OneFrame : Type 0
@@ -16,3 +16,7 @@ WrappedHasNoFault = (datagram apdu : List ℕ) (source dest : ℕ) → Wraps dat
 abbrev pub FaultlessWraps : Type 0
 FaultlessWraps = (datagram : List ℕ) → All (λ b. b < 256) datagram → fault_of datagram ≡ None
     → (source dest : ℕ) × ((apdu : List ℕ) × Wraps datagram source dest apdu)
+
+-- what wraps an APDU has fewer bytes than are received, so that what was cut there is none
+abbrev pub CutIsNone : Type 0
+CutIsNone = (datagram apdu : List ℕ) (source dest : ℕ) → Wraps datagram source dest apdu → length datagram < max_received

@@ -18,7 +18,7 @@ ghost use Rattle.std.specs.Prelude.{
   vec_capacity,
 };
 ghost use Rattle.std.specs.Result.{result_err};
-ghost use Rattle.fw_wrapper.specs.Wrapper.{max_apdu, Wraps, wrapped, fault_of};
+ghost use Rattle.fw_wrapper.specs.Wrapper.{header_size, max_apdu, Wraps, wrapped, fault_of};
 
 use crate::error::WrapError;
 use std::alloc::Global;
@@ -26,11 +26,18 @@ use std::alloc::Global;
 /// The longest APDU that either end takes, in bytes.
 pub const MAX_APDU: usize = 2304;
 
+/// The bytes of a header.
+pub const HEADER_SIZE: usize = 8;
+
+/// The bytes of a buffer that datagrams are received into: one more than a datagram of this profile can have, so that a longer one,
+/// which is cut, is none.
+pub const MAX_RECEIVED: usize = HEADER_SIZE + MAX_APDU + 1;
+
+/// The wPort of both ends: of the management process of a head end, and of that of a meter.
+pub const WPORT: u16 = 1;
+
 /// The version that every header has.
 const VERSION: u16 = 1;
-
-/// The bytes of a header.
-const HEADER_SIZE: usize = 8;
 
 /// What a datagram carries: an APDU, and the wPorts that it goes between.
 #[derive(Clone, Copy)]
@@ -97,7 +104,7 @@ pub fn join(alloc: Global, source: u16, dest: u16, apdu: &[u8]) -> Result<Vec<u8
 /// taken.
 pub fn join_in(room: &mut Vec<u8>, source: u16, dest: u16, apdu: &[u8])
     requires size { length apdu.now ≤ max_apdu }
-    requires room { vec_len room.old + 8 + length apdu.now ≤ vec_capacity room.old }
+    requires room { vec_len room.old + header_size + length apdu.now ≤ vec_capacity room.old }
     ensures { room.new.items ≡ room.old.items ++ wrapped source dest apdu.now }
 {
     // There is room for each.

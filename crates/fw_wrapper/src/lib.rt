@@ -6,4 +6,4 @@ mod frame;
 pub mod laws;
 
 pub use error::WrapError;
-pub use frame::{Frame, MAX_APDU, join, join_in, split};
+pub use frame::{Frame, HEADER_SIZE, MAX_APDU, MAX_RECEIVED, WPORT, join, join_in, split};

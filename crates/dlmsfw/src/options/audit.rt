@@ -4,6 +4,7 @@ use super::manual::{CommandOption, Manual, Presence, Takes};
 use super::{Invocation, WrongValue, address, manual};
 use clap::{ArgMatches, Command};
 use fw_auditor::{AuditForm, AuditOptions, FreshMeter, HeadLog};
+use fw_blocks::{MAX_BLOCK_SIZE, MAX_IMAGE_SIZE};
 use std::alloc::{AllocError, Global};
 use std::net::SocketAddr;
 
@@ -165,13 +166,13 @@ const MANUAL: &Manual = &Manual {
         },
         CommandOption {
             name: "block-size",
-            takes: Takes::Within("BYTES", 1, 1_024),
+            takes: Takes::Within("BYTES", 1, MAX_BLOCK_SIZE),
             presence: Presence::Default("1024"),
             help: "Bytes per block of a meter that began new, 1 to 1024",
         },
         CommandOption {
             name: "capacity",
-            takes: Takes::Within("BYTES", 1, 16_777_216),
+            takes: Takes::Within("BYTES", 1, MAX_IMAGE_SIZE),
             presence: Presence::Default("1048576"),
             help: "Bytes of its longest image, 1 to 16777216, in at most 16384 blocks",
         },

@@ -2,20 +2,17 @@
 
 use super::manual::{CommandOption, Manual, Presence, Takes};
 use super::{
-    DAEMON_CAPTURE, DAEMON_CAPTURE_STRANGERS, HeadShown, Invocation, KEYS, NEW_COUNTER, STRICT,
-    WrongValue, address, manual, sealing_of, serials,
+    DAEMON_CAPTURE, DAEMON_CAPTURE_STRANGERS, HeadShown, Invocation, KEYS, LONGEST_RESEND,
+    MAX_FLIGHT, NEW_COUNTER, STRICT, WrongValue, address, manual, sealing_of, serials,
 };
 use clap::{ArgMatches, Command};
-use fw_blocks::Width;
+use fw_blocks::{MAX_WIDTH, Width};
 use fw_cli::HeadOptions;
 use fw_host::{BookOptions, Opening};
 use fw_names::HeadId;
 use fw_plan::{Deadline, MaxFailed, SerialRange, Window};
-use fw_rollout::{Plan, Timing};
+use fw_rollout::{MILLISECOND, Plan, Timing};
 use std::alloc::{AllocError, Global};
-
-/// The microseconds of a millisecond.
-const MILLISECOND: u64 = 1_000;
 
 /// What the long help begins with.
 const ABOUT: &str = "\
@@ -112,13 +109,14 @@ With --events EVENTS each of these lines but the first has an event in EVENTS, a
 and so have the start, the campaigns that it goes on with, a row that gets nowhere, how far it is, each
 minute, and a fault that ends it while it leads. A row has its reason there. Rows of FILE that ended without
 an event get one at the start, so after a kill none is missing, and none is told twice. EVENTS is made if it
-isn't there, and goes on behind its last whole line. An event that can't be written is lost; that of a row
-comes with the next start. No other program may cut EVENTS or write to it meanwhile. It is put away while no
-head end runs: the EVENTS that the next one makes has an event for each row of FILE that ended.
+isn't there, and goes on behind its last whole line. An event that can't be written is lost, which standard
+error says once; that of a row comes with the next start. No other program may cut EVENTS or write to it
+meanwhile. It is put away while no head end runs: the EVENTS that the next one makes has an event for each
+row of FILE that ended.
 With --metrics METRICS a page in Prometheus' text format is in METRICS, as node_exporter's textfile collector
 reads it if its name ends with .prom: rows by campaign and state, datagrams each way, resends, strangers, and
-failures of the socket. It is replaced whole, by way of METRICS.new. A file that is neither is left as it is,
-and is Output.
+failures of the socket. It is replaced whole, by way of METRICS.new; if it can't be, standard error says so
+once. A file that is neither is left as it is, and is Output.
 
 Example, in two terminals, an image for the meter at port 4059:
 
@@ -228,19 +226,19 @@ const MANUAL: &Manual = &Manual {
         },
         CommandOption {
             name: "width",
-            takes: Takes::Within("W", 1, 15),
+            takes: Takes::Within("W", 1, MAX_WIDTH as u32),
             presence: Presence::Default("4"),
             help: "How many blocks are sent to a meter at a time, 1 to 15",
         },
         CommandOption {
             name: "flight",
-            takes: Takes::Within("N", 1, 65_536),
+            takes: Takes::Within("N", 1, MAX_FLIGHT),
             presence: Presence::Default("256"),
             help: "How many datagrams are out at once, 1 to 65536",
         },
         CommandOption {
             name: "resend",
-            takes: Takes::Within("MS", 1, 60_000),
+            takes: Takes::Within("MS", 1, LONGEST_RESEND),
             presence: Presence::Default("200"),
             help: "How long the first answer of a meter is waited for, in milliseconds, 1 to 60000",
         },

@@ -1,9 +1,9 @@
 //! The command `live`, and its help.
 
 use super::manual::{CommandOption, Manual, Presence, Takes};
-use super::{CAPTURE, TRACE, manual};
+use super::{CAPTURE, MAX_ROUNDS, TRACE, manual};
 use clap::{ArgMatches, Command};
-use fw_cli::LiveOptions;
+use fw_cli::{LiveOptions, MAX_WORKERS};
 use std::alloc::{AllocError, Global};
 
 /// What the long help begins with.
@@ -68,13 +68,13 @@ const MANUAL: &Manual = &Manual {
     options: &[
         CommandOption {
             name: "rounds",
-            takes: Takes::Within("R", 1, 100_000),
+            takes: Takes::Within("R", 1, MAX_ROUNDS),
             presence: Presence::Required,
             help: "How many rounds of each link follow, 1 to 100000",
         },
         CommandOption {
             name: "workers",
-            takes: Takes::Within("W", 1, 8),
+            takes: Takes::Within("W", 1, MAX_WORKERS),
             presence: Presence::Required,
             help: "How many workers make them, 1 to 8",
         },

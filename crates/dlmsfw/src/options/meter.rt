@@ -6,6 +6,7 @@ use super::{
     address, manual, sealing_of,
 };
 use clap::{ArgMatches, Command};
+use fw_blocks::{MAX_BLOCK_SIZE, MAX_IMAGE_SIZE};
 use fw_cli::MeterOptions;
 use fw_host::NewMeter;
 use std::alloc::{AllocError, Global};
@@ -182,13 +183,13 @@ const MANUAL: &Manual = &Manual {
         },
         CommandOption {
             name: "block-size",
-            takes: Takes::Within("BYTES", 1, 1_024),
+            takes: Takes::Within("BYTES", 1, MAX_BLOCK_SIZE),
             presence: Presence::Default("1024"),
             help: "Bytes per block of an image transfer, 1 to 1024, of a new meter",
         },
         CommandOption {
             name: "capacity",
-            takes: Takes::Within("BYTES", 1, 16_777_216),
+            takes: Takes::Within("BYTES", 1, MAX_IMAGE_SIZE),
             presence: Presence::Default("1048576"),
             help: "Bytes of its longest image, 1 to 16777216, in at most 16384 blocks",
         },

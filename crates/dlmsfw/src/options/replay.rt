@@ -1,7 +1,7 @@
 //! The command `replay`, and its help.
 
 use super::manual::{CommandOption, Manual, Presence, Takes};
-use super::{CAPTURE, TRACE, manual};
+use super::{CAPTURE, MAX_ROUNDS, TRACE, manual};
 use clap::{ArgMatches, Command};
 use fw_cli::{ReplayOptions, Rounds};
 use fw_report::{ReportForm, Style};
@@ -145,7 +145,7 @@ const MANUAL: &Manual = &Manual {
     options: &[
         CommandOption {
             name: "rounds",
-            takes: Takes::Within("R", 1, 100_000),
+            takes: Takes::Within("R", 1, MAX_ROUNDS),
             presence: Presence::With("fates"),
             help: "How many rounds of each link follow, 1 to 100000",
         },

@@ -1,15 +1,13 @@
 //! The command `survey`, and its help.
 
 use super::manual::{CommandOption, Manual, Presence, Takes};
-use super::{Invocation, WrongValue, address, manual};
+use super::{Invocation, LONGEST_RESEND, MAX_FLIGHT, WrongValue, address, manual};
 use clap::{ArgMatches, Command};
 use fw_cli::{SurveyOffer, SurveyOptions};
 use fw_inventory::InventoryForm;
+use fw_rollout::MILLISECOND;
 use fw_survey::Timing;
 use std::alloc::{AllocError, Global};
-
-/// The microseconds of a millisecond.
-const MILLISECOND: u64 = 1_000;
 
 /// The names of the forms.
 const TABLE: &str = "table";
@@ -96,7 +94,7 @@ const MANUAL: &Manual = &Manual {
         },
         CommandOption {
             name: "resend",
-            takes: Takes::Within("MS", 1, 60_000),
+            takes: Takes::Within("MS", 1, LONGEST_RESEND),
             presence: Presence::Default("1000"),
             help: "How long an answer is waited for, in milliseconds, 1 to 60000",
         },
@@ -108,7 +106,7 @@ const MANUAL: &Manual = &Manual {
         },
         CommandOption {
             name: "flight",
-            takes: Takes::Within("N", 1, 65_536),
+            takes: Takes::Within("N", 1, MAX_FLIGHT),
             presence: Presence::Default("1024"),
             help: "How many questions are out at once, 1 to 65536",
         },

@@ -1,7 +1,6 @@
 use Rattle.std.proofs.Common.{rules, ◌≡◌, ◌≤◌, ◌++◌, List, [], length, Option, None, sym, ap, subst, ◌∙◌, arith}
 use Rattle.std.specs.Prelude.{option_to_list}
 use Rattle.std.proofs.lemmas.List.Elements.{All-contains}
-use Rattle.fw_store.specs.Setup.{IsCapacity}
 use Rattle.fw_image.specs.Meter.{reopened}
 use Rattle.fw_audit.specs.Log.{log_of}
 use Rattle.fw_audit.specs.Private.{Gathers}
@@ -21,14 +20,6 @@ gathered-requires-clause-rests c =
     let pops = c.pop.ensures.items ∙ ap (λ (o : Option Left). c.pop.new.self.items ++ option_to_list o) c.in-Some.is in
     let there = is_in c.args.lefts.items c.pop.new.self.items g.done left (popped c.args.lefts.items c.loop-left.rest.items c.pop.new.self.items g.done left g.is pops) in
     All-contains (λ (l : Left). reopened l.meter.meter ≡ l.meter.meter) c.args.lefts.items left c.requires.rests there
-
-pub gathered-requires-clause-room : goal.gathered-requires-clause-room
-gathered-requires-clause-room c =
-    let g = c.loop-left.invariant in
-    let left = c.in-Some.left in
-    let pops = c.pop.ensures.items ∙ ap (λ (o : Option Left). c.pop.new.self.items ++ option_to_list o) c.in-Some.is in
-    let there = is_in c.args.lefts.items c.pop.new.self.items g.done left (popped c.args.lefts.items c.loop-left.rest.items c.pop.new.self.items g.done left g.is pops) in
-    All-contains (λ (l : Left). IsCapacity l.meter.meter.capacity) c.args.lefts.items left c.requires.room there
 
 pub loop-left-preserved : goal.loop-left-preserved
 loop-left-preserved c =

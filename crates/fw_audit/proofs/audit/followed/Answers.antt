@@ -1,6 +1,5 @@
 use Rattle.std.proofs.Common.{◌≡◌, ◌+◌, List, Err, take, slice_range, refl, sym, subst, ◌∙◌, arith}
 use Rattle.std.proofs.lemmas.List.{take_all}
-use Rattle.fw_store.specs.Setup.{IsCapacity}
 use Rattle.fw_image.specs.Meter.{reopened}
 use Rattle.fw_audit.specs.Log.{Item, log_of}
 use Rattle.fw_audit.specs.Stands.{ended}
@@ -33,9 +32,6 @@ all_outlived-requires-clause-some c = c.loop-at.invariant.0.some
 
 pub all_outlived-requires-clause-rests : goal.all_outlived-requires-clause-rests
 all_outlived-requires-clause-rests c k d inside = (c.loop-at.invariant.0.each k d inside).rests
-
-pub all_outlived-requires-clause-room : goal.all_outlived-requires-clause-room
-all_outlived-requires-clause-room c k d inside = subst IsCapacity (sym (c.loop-at.invariant.0.each k d inside).size) c.requires
 
 pub all_outlived-requires-clause-going : goal.all_outlived-requires-clause-going
 all_outlived-requires-clause-going c =

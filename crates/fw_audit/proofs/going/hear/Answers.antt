@@ -29,7 +29,7 @@ returns c =
     let told = c.in-Ok in
     let same = c.with_running.ensures.meter in
     let handles = c.faultless.ensures old new c.args.datagram.now _ _ c.requires.honest c.requires.sound told.ensures.step in
-    heard_next c.one_answer.ensures c.args.heads.now c.args.switched.items old.meter c.args.from c.args.datagram.now (reply_bytes told.handled.reply) told.handled.activated _
+    heard_next c.one_answer.ensures c.keeps_size.ensures c.args.heads.now c.args.switched.items old.meter c.args.from c.args.datagram.now (reply_bytes told.handled.reply) told.handled.activated _
     (c.may_ask.ensures.0 c.if-not-may_ask.false)
     (subst (λ (m : Meter). Handles true IsTrue old.meter c.args.datagram.now (reply_bytes told.handled.reply) told.handled.activated m) (sym same) handles)
     (c.owed_to.ensures after.meter)

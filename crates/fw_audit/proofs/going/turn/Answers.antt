@@ -12,7 +12,7 @@ returns-then-eq c heads =
     let old = c.args.meter in
     let new = c.turn.new.self in
     let same : c.started.result.meter.meter ≡ new.meter = ap (λ (s : State). s.meter) c.started.ensures.meter in
-    turned_next c.one_turn.ensures heads c.args.switched.items old.meter c.started.result
+    turned_next c.one_turn.ensures c.turn_keeps_size.ensures heads c.args.switched.items old.meter c.started.result
     (search rules)
     (subst (λ (m : Meter). Turn true old.meter true m) (sym same) (turn_true old new c.requires c.turn.ensures))
     (c.started.ensures.stand ∙ ap (λ (m : Meter). waits m) (sym same))

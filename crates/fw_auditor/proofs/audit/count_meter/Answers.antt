@@ -1,4 +1,3 @@
-use Rattle.std.proofs.Common.{ℕ, List, subst}
 use Rattle.fw_auditor.proofs.audit.count_meter.Goals as goal
 
 pub returns : goal.returns

@@ -1,4 +1,4 @@
-use Rattle.std.proofs.Common.{◌≡◌, ◌++◌, [], take}
+use Rattle.std.proofs.Common.{◌≡◌, ◌++◌, take}
 use Rattle.fw_order.specs.Order.{ends_of}
 use Rattle.fw_auditor.specs.Private.{ends_in}
 use Rattle.fw_auditor.proofs.ends.logs_of.Given as goal

@@ -1,5 +1,5 @@
-use Rattle.std.proofs.Common.{List, subst, ap, ◌∙◌}
-use Rattle.fw_order.specs.Order.{End, HasOrder, ends_of}
+use Rattle.std.proofs.Common.{subst, ap, ◌∙◌}
+use Rattle.fw_order.specs.Order.{HasOrder, ends_of}
 use Rattle.fw_auditor.proofs.ends.tell_order.Goals as goal
 
 pub returns-in-Ok : goal.returns-in-Ok

@@ -1,9 +1,8 @@
-use Rattle.std.proofs.Common.{◌≡◌, ◌∙◌, ap, rules, subst, sym}
+use Rattle.std.proofs.Common.{◌≡◌, ◌∙◌, ap, rules}
 use Rattle.std.proofs.lemmas.Result.{IfErr-weaker, on_ok_weaker}
 use Rattle.fw_book.specs.Contents.{Contents}
 use Rattle.fw_kept.specs.Head.{book_of, head_of}
 use Rattle.fw_plan.specs.Ranges.{serials_of}
-use Rattle.fw_cli.specs.Cancelling.{IsOfCancel}
 use Rattle.fw_cli.proofs.Cancels.{cancels_these, is_named, memory_of_none, stopped_none, stopped_these}
 use Rattle.fw_cli.proofs.cancel.cancel_named.Goals as goal
 
@@ -25,10 +24,7 @@ pub returns-in-Ok-clause-serial : goal.returns-in-Ok-clause-serial
 returns-in-Ok-clause-serial g c = IfErr-weaker c.cancel_all.result _ _ (λ f it of. is_named f.serial _ it) c.cancel_all.ensures.stopped
 
 pub returns-in-Err-clause-stopped : goal.returns-in-Err-clause-stopped
-returns-in-Err-clause-stopped g c = stopped_none _ _ _ _ _ _ c.of_book.ensures.serial
+returns-in-Err-clause-stopped g c = stopped_none _ _ _ _ _ _ c.from.ensures.1
 
 pub returns-in-Err-clause-serial : goal.returns-in-Err-clause-serial
-returns-in-Err-clause-serial g c = λ of. absurd (memory_of_none _ (c.of_book.ensures.fault ∙ c.from.ensures.0) of)
-
-pub returns-in-Err-clause-faults : goal.returns-in-Err-clause-faults
-returns-in-Err-clause-faults g c = subst IsOfCancel (sym (c.of_book.ensures.fault ∙ c.from.ensures.0)) tt
+returns-in-Err-clause-serial g c = λ of. absurd (memory_of_none _ c.from.ensures.0 of)

@@ -1,4 +1,4 @@
-use Rattle.std.proofs.Common.{◌≡◌, ap, rules}
+use Rattle.std.proofs.Common.{◌≡◌, ap, refl, rules}
 use Rattle.fw_names.specs.Name.{Campaign}
 use Rattle.fw_head.specs.Head.{campaign_at}
 use Rattle.fw_kept.specs.Head.{head_of}
@@ -6,6 +6,9 @@ use Rattle.fw_host.specs.Heads.{cancelled_line}
 use Rattle.fw_host.proofs.Tellings.{told_line}
 use Rattle.fw_cli.proofs.Sayings.{changes_cancelled, changes_same}
 use Rattle.fw_cli.proofs.head.cancel_one.Goals as goal
+
+pub returns-in_default-clause-told : goal.returns-in_default-clause-told
+returns-in_default-clause-told g c = changes_same _ _ _ _ refl
 
 pub returns-in_err-cancel-clause-told : goal.returns-in_err-cancel-clause-told
 returns-in_err-cancel-clause-told g c = changes_same _ _ _ _ c.in_err-cancel.ensures.same

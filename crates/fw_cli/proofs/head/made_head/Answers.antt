@@ -1,67 +1,37 @@
-use Rattle.std.proofs.Common.{◌≡◌, ◌∙◌, Option, inl, subst}
-use Rattle.fw_host.specs.declared.sealing.SealingOptions.{SealingOptions}
+use Rattle.std.proofs.Common.{◌≡◌, ◌∙◌, Option, subst}
 use Rattle.std.proofs.lemmas.Result.{err_from_is_err_and}
-use Rattle.fw_cli.specs.Heads.{IsAskedFor}
-use Rattle.fw_host.specs.Heads.{IsOfHeadSetup}
+use Rattle.fw_host.specs.declared.sealing.SealingOptions.{SealingOptions}
+use Rattle.fw_cli.specs.Faults.{MakesCounter}
+use Rattle.fw_cli.specs.HeadErrors.{IsAskedFor}
+use Rattle.fw_cli.specs.Sealing.{IsKeyed}
+use Rattle.fw_cli.specs.declared.head_error.HeadFailure.{HeadFailure}
 use Rattle.fw_cli.proofs.Begun.{changes_of_new}
-use Rattle.fw_cli.proofs.Captured.{capture_in_setup, capture_is_asked}
-use Rattle.fw_cli.proofs.HeadLeading.{book_in_setup, book_is_asked, passed_because}
-use Rattle.fw_cli.specs.Faults.{IsKeyed, MakesCounter}
-use Rattle.fw_cli.proofs.Linked.{counter_in_setup, counter_is_asked, new_counter_keyed}
+use Rattle.fw_cli.proofs.HeadLeading.{capture_is_asked, counters_are_asked, new_is_asked, sealing_is_asked}
+use Rattle.fw_cli.proofs.Passing.{passed_to}
 use Rattle.fw_cli.proofs.head.made_head.Goals as goal
-
-pub returns-in_err-file-clause-asked : goal.returns-in_err-file-clause-asked
-returns-in_err-file-clause-asked g c =
-    let passed = err_from_is_err_and c.from_residual-in_err-file.result c.from_residual-in_err-file.ensures.1 in
-    let same : passed.0.error ≡ c.in_err-file.field-0.0.error = cc passed.2 in
-    passed_because c.from_residual-in_err-file.result (IsAskedFor c.args.options.now) passed.0 _ passed.1 same (capture_is_asked c.args.options.now _ c.in_err-file.ensures.asked c.in_err-file.ensures.faults)
-
-pub returns-in_err-file-clause-faults : goal.returns-in_err-file-clause-faults
-returns-in_err-file-clause-faults g c =
-    let passed = err_from_is_err_and c.from_residual-in_err-file.result c.from_residual-in_err-file.ensures.1 in
-    let same : passed.0.error ≡ c.in_err-file.field-0.0.error = cc passed.2 in
-    passed_because c.from_residual-in_err-file.result IsOfHeadSetup passed.0 _ passed.1 same (capture_in_setup _ c.in_err-file.ensures.faults)
-
-pub returns-in_err-made-clause-asked : goal.returns-in_err-made-clause-asked
-returns-in_err-made-clause-asked g c =
-    let passed = err_from_is_err_and c.from_residual-in_err-made.result c.from_residual-in_err-made.ensures.1 in
-    let same : passed.0.error ≡ c.in_err-made.field-0.0.error = cc passed.2 in
-    passed_because c.from_residual-in_err-made.result (IsAskedFor c.args.options.now) passed.0 _ passed.1 same (book_is_asked c.args.options.now _ c.in_err-made.ensures.faults)
-
-pub returns-in_err-made-clause-faults : goal.returns-in_err-made-clause-faults
-returns-in_err-made-clause-faults g c =
-    let passed = err_from_is_err_and c.from_residual-in_err-made.result c.from_residual-in_err-made.ensures.1 in
-    let same : passed.0.error ≡ c.in_err-made.field-0.0.error = cc passed.2 in
-    passed_because c.from_residual-in_err-made.result IsOfHeadSetup passed.0 _ passed.1 same (book_in_setup c.args.options.now.book.is_new _ c.in_err-made.ensures.faults)
-
-pub returns-clause-changes : goal.returns-clause-changes
-returns-clause-changes g c = changes_of_new _ _ _ _ _ _ _ (c.in_ok-made.ensures.new c.requires.is_new) c.requires.changes
 
 pub returns-in_err-links-clause-asked : goal.returns-in_err-links-clause-asked
 returns-in_err-links-clause-asked g c =
     let passed = err_from_is_err_and c.from_residual.result c.from_residual.ensures.1 in
-    let same : passed.0.error ≡ c.in_err-links.field-0.0.error = cc passed.2 in
-    passed_because c.from_residual.result (IsAskedFor c.args.options.now) passed.0 _ passed.1 same (counter_is_asked c.args.options.now _ (subst (λ (s : Option SealingOptions). IsKeyed s c.in_err-links.field-0.0.error) c.requires.keyed c.in_err-links.ensures.keyed) c.in_err-links.ensures.faults)
+    passed_to c.from_residual.result (λ (f : HeadFailure). IsAskedFor c.args.options.now f.error) passed.0 _ passed.1 passed.2 (sealing_is_asked c.args.options.now c.in_err-links.field-0.0.error (subst (λ (s : Option SealingOptions). IsKeyed s c.in_err-links.field-0.0.error) c.requires.keyed c.in_err-links.ensures.keyed))
 
-pub returns-in_err-links-clause-faults : goal.returns-in_err-links-clause-faults
-returns-in_err-links-clause-faults g c =
-    let passed = err_from_is_err_and c.from_residual.result c.from_residual.ensures.1 in
-    let same : passed.0.error ≡ c.in_err-links.field-0.0.error = cc passed.2 in
-    passed_because c.from_residual.result IsOfHeadSetup passed.0 _ passed.1 same (counter_in_setup _ c.in_err-links.ensures.faults)
+pub returns-in_err-file-clause-asked : goal.returns-in_err-file-clause-asked
+returns-in_err-file-clause-asked g c =
+    let passed = err_from_is_err_and c.from_residual-in_err-file.result c.from_residual-in_err-file.ensures.1 in
+    passed_to c.from_residual-in_err-file.result (λ (f : HeadFailure). IsAskedFor c.args.options.now f.error) passed.0 _ passed.1 passed.2 (capture_is_asked c.args.options.now c.in_err-file.field-0.0.error c.in_err-file.ensures.asked)
 
 pub returns-in_err-sealing-clause-asked : goal.returns-in_err-sealing-clause-asked
 returns-in_err-sealing-clause-asked g c =
     let passed = err_from_is_err_and c.from_residual-in_err-sealing.result c.from_residual-in_err-sealing.ensures.1 in
-    let same : passed.0.error ≡ c.in_err-sealing.field-0.0.error = cc passed.2 in
-    passed_because c.from_residual-in_err-sealing.result (IsAskedFor c.args.options.now) passed.0 _ passed.1 same
-    (counter_is_asked c.args.options.now _ (new_counter_keyed c.args.options.now.sealing _ (subst MakesCounter c.requires.keyed (c.in_ok-links.ensures.makes c.in_err-sealing.ensures.faults.0))
-    c.in_err-sealing.ensures.faults.1) (inl c.in_err-sealing.ensures.faults.1))
+    passed_to c.from_residual-in_err-sealing.result (λ (f : HeadFailure). IsAskedFor c.args.options.now f.error) passed.0 _ passed.1 passed.2 (counters_are_asked c.args.options.now c.in_err-sealing.field-0.0.error (subst MakesCounter c.requires.keyed (c.in_ok-links.ensures.makes c.in_err-sealing.ensures.made)))
 
-pub returns-in_err-sealing-clause-faults : goal.returns-in_err-sealing-clause-faults
-returns-in_err-sealing-clause-faults g c =
-    let passed = err_from_is_err_and c.from_residual-in_err-sealing.result c.from_residual-in_err-sealing.ensures.1 in
-    let same : passed.0.error ≡ c.in_err-sealing.field-0.0.error = cc passed.2 in
-    passed_because c.from_residual-in_err-sealing.result IsOfHeadSetup passed.0 _ passed.1 same (counter_in_setup _ (inl c.in_err-sealing.ensures.faults.1))
+pub returns-in_err-made-clause-asked : goal.returns-in_err-made-clause-asked
+returns-in_err-made-clause-asked g c =
+    let passed = err_from_is_err_and c.from_residual-in_err-made.result c.from_residual-in_err-made.ensures.1 in
+    passed_to c.from_residual-in_err-made.result (λ (f : HeadFailure). IsAskedFor c.args.options.now f.error) passed.0 _ passed.1 passed.2 (new_is_asked c.args.options.now c.in_err-made.field-0.0.error c.requires.is_new)
+
+pub returns-clause-changes : goal.returns-clause-changes
+returns-clause-changes g c = changes_of_new _ _ _ _ _ _ _ c.in_ok-made.ensures.new c.requires.changes
 
 pub returns-clause-links : goal.returns-clause-links
 returns-clause-links g c = c.in_ok-sealing.ensures.links ∙ c.in_ok-links.ensures.links

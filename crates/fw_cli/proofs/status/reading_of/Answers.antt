@@ -1,11 +1,10 @@
 use Rattle.std.proofs.Common.{◌≡◌, ◌++◌, ◌∙◌, ℕ, List, [], Option, Some, None, ap, inr, refl, subst}
-use Rattle.std.specs.Prelude.{◌≢◌}
 use Rattle.std.proofs.lemmas.Result.{err_from_is_err_and}
 use Rattle.fw_book.specs.Contents.{Contents}
 use Rattle.fw_book.specs.Notes.{Known}
 use Rattle.fw_kept.specs.Kept.{HasNotes, IsReadAs}
-use Rattle.fw_kept.specs.declared.error.OpenError.{OpenError}
-use Rattle.fw_kept.specs.declared.error.OpenError.TheVariants as opening
+use Rattle.fw_kept.specs.declared.error.ReadingError.{ReadingError}
+use Rattle.fw_kept.specs.declared.error.ReadingError.TheVariants as reading
 use Rattle.fw_rows.specs.Noted.{Noted, noted_of_book}
 use Rattle.fw_status.specs.Campaigns.{campaigns_of}
 use Rattle.fw_status.specs.declared.campaign.CampaignStatus.{CampaignStatus}
@@ -35,15 +34,12 @@ returns-clause-status c =
     c.in_ok-push_campaigns.ensures c.new-rows.ensures.items c.in_ok-push_noted.ensures
 
 -- bytes that hold no book are no file that isn't read
-no_reason : (e : OpenError) → e ≢ opening.ForeignHead → e ≢ opening.BookFault → SaysWhy (status_error e) None
-no_reason (opening.BadBook offset) foreign failed = refl
-no_reason (opening.BadRecord index) foreign failed = refl
-no_reason opening.ForeignHead foreign failed = absurd (foreign refl)
-no_reason opening.BookFault foreign failed = absurd (failed refl)
-no_reason opening.OutOfMemory foreign failed = refl
+no_reason : (e : ReadingError) → SaysWhy (status_error e) None
+no_reason (reading.BadBook offset) = refl
+no_reason (reading.BadRecord index) = refl
+no_reason reading.OutOfMemory = refl
 
 pub returns-in_err-book-clause-reason : goal.returns-in_err-book-clause-reason
 returns-in_err-book-clause-reason c =
     let passed = err_from_is_err_and c.from_residual.result c.from_residual.ensures.1 in
-    let refusals = c.in_err-book.ensures.refusals in
-    passed_to c.from_residual.result (λ (e : StatusError). SaysWhy e None) passed.0 _ passed.1 passed.2 (no_reason _ refusals.0 refusals.1)
+    passed_to c.from_residual.result (λ (e : StatusError). SaysWhy e None) passed.0 _ passed.1 passed.2 (no_reason _)

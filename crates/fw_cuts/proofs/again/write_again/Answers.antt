@@ -27,8 +27,8 @@ loop-at-preserved g c =
       omega (arith, within, below),
     )
 
-pub returns : goal.returns
-returns g c = λ honest.
+pub returns-clause-written : goal.returns-clause-written
+returns-clause-written g c = λ honest.
     let a = g.F.StoreFiles.seen c.args.files.now in
     let b = g.F.StoreFiles.seen c.loop-at.files in
     let e = g.F.StoreFiles.seen c.sync.new.self in

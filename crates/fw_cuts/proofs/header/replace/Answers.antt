@@ -6,7 +6,7 @@ use Rattle.fw_cuts.specs.declared.files.Part.{Part}
 use Rattle.fw_cuts.specs.declared.files.Part.TheVariants.{Store, Journal}
 use Rattle.fw_cuts.proofs.Goings.{stays, if_err}
 use Rattle.fw_cuts.proofs.Cutting.{in_reading}
-use Rattle.fw_cuts.proofs.Writing.{ready_synced, on_ready, done_so, while_preparing, while_writing, at_rest_after, failed_so, unbegun}
+use Rattle.fw_cuts.proofs.Writing.{ready_synced, on_ready, done_so, while_preparing, while_writing, at_rest_after, failed_so, taken_so, none_kept, unbegun}
 use Rattle.fw_cuts.proofs.header.replace.Goals as goal
 
 pub returns-in_err-sync-clause-goes : goal.returns-in_err-sync-clause-goes
@@ -139,3 +139,31 @@ returns-in_err-put_journal-clause-failed g c = λ honest from to rest clear.
     let d = g.F.StoreFiles.seen c.put_journal.new.files in
     if_err c.from_residual-in_err-put_journal.result ((made : List ℕ) → IsTakenBack kept d.held.store made → made ≡ a.held.store)
     (unbegun kept a d clear ((c.put_journal.ensures.goes honest).reads ∙ ap (λ (x : Both). x.store) ((c.write_to.ensures.goes honest).reads ∙ (c.sync.ensures.goes honest).reads)))
+
+-- that it makes something
+pub returns-in-Err-clause-taken : goal.returns-in-Err-clause-taken
+returns-in-Err-clause-taken g c = λ clear store.
+    taken_so c.to_bytes.result c.in_ok-write.write store c.to_bytes.ensures.some c.to_bytes.ensures.none c.in_ok-write.ensures.fits
+
+pub returns-in_err-sync-clause-taken : goal.returns-in_err-sync-clause-taken
+returns-in_err-sync-clause-taken g c = λ clear store.
+    let kept = c.args.scratch.now.failed in
+    if_err c.from_residual.result ((made : List ℕ) × IsTakenBack kept store made) (none_kept kept store clear)
+
+pub returns-in_err-write-clause-taken : goal.returns-in_err-write-clause-taken
+returns-in_err-write-clause-taken g c = λ clear store.
+    let kept = c.args.scratch.now.failed in
+    if_err c.from_residual-in_err-write.result ((made : List ℕ) × IsTakenBack kept store made) (none_kept kept store clear)
+
+pub returns-in_err-put_journal-clause-taken : goal.returns-in_err-put_journal-clause-taken
+returns-in_err-put_journal-clause-taken g c = λ clear store.
+    let kept = c.args.scratch.now.failed in
+    if_err c.from_residual-in_err-put_journal.result ((made : List ℕ) × IsTakenBack kept store made) (none_kept kept store clear)
+
+pub returns-in-Ok-clause-synced : goal.returns-in-Ok-clause-synced
+returns-in-Ok-clause-synced g c = λ honest from to rest.
+    let m = g.F.StoreFiles.seen c.write_to.new.files in
+    let d = g.F.StoreFiles.seen c.put_journal.new.files in
+    let found_m : (part : Part) → NoneLost part m = λ part i is. rest.found part i (c.in_ok-sync.ensures.lost honest part i (c.write_to.ensures.lost honest part i is)) in
+    let found_d : (part : Part) → NoneLost part d = λ part i is. found_m part i (c.in_ok-put_journal.ensures.lost honest part i is) in
+    c.in-Ok.ensures.synced honest (found_d Store)

@@ -1,6 +1,6 @@
 use Rattle.std.proofs.Common.{rules, arith, length-drop, ◌≡◌, ◌+◌, ◌-◌, ◌≤◌, List, ℕ, length, take, drop, slice_range, ap, ◌∙◌}
 use Rattle.std.proofs.lemmas.List.{take_all}
-use Rattle.fw_undo.specs.Write.{Write}
+use Rattle.fw_cuts.specs.Write.{Write}
 use Rattle.fw_cuts.specs.Both.{Both}
 use Rattle.fw_cuts.proofs.header.write_to.Goals as goal
 

@@ -1,5 +1,5 @@
 use Rattle.std.proofs.Common.{◌≡◌, ◌≤◌, length, sym, ◌∙◌, ap, arith}
-use Rattle.fw_undo.specs.Cut.{resized}
+use Rattle.fw_cuts.specs.Sectors.{resized}
 use Rattle.fw_cuts.specs.Both.{Both, On}
 use Rattle.fw_cuts.specs.Cuts.{Resizes, MayResize, IsSynced, NoneLost}
 use Rattle.fw_cuts.specs.declared.files.Part.TheVariants.{Store}

@@ -1,5 +1,5 @@
 use Rattle.std.proofs.Common.{◌≡◌, ◌+◌, length, ◌∙◌, ap, arith, List, ℕ}
-use Rattle.fw_undo.specs.Cut.{replaced}
+use Rattle.fw_cuts.specs.Sectors.{replaced}
 use Rattle.fw_cuts.specs.Both.{On}
 use Rattle.fw_cuts.specs.declared.files.Part.TheVariants.{Store}
 use Rattle.fw_cuts.specs.Cuts.{Cuts, Writes, MayResize, splice}

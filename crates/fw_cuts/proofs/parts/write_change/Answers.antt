@@ -1,9 +1,9 @@
 use Rattle.std.proofs.Common.{◌≡◌, length, length-drop, refl, sym, subst, ◌∙◌, ap, arith}
-use Rattle.fw_undo.specs.Write.{Write, IsWrite}
-use Rattle.fw_undo.specs.Cut.{IsOn, after_of}
-use Rattle.fw_undo.specs.Change.{IsChange}
-use Rattle.fw_undo.specs.declared.write.Change.{Change}
-use Rattle.fw_undo.specs.declared.write.Change.TheVariants.{FirstPart, LastPart}
+use Rattle.fw_cuts.specs.Write.{Write, IsWrite}
+use Rattle.fw_cuts.specs.Sectors.{IsOn, after_of}
+use Rattle.fw_cuts.specs.Change.{IsChange}
+use Rattle.fw_cuts.specs.declared.undo.write.Change.{Change}
+use Rattle.fw_cuts.specs.declared.undo.write.Change.TheVariants.{FirstPart, LastPart}
 use Rattle.fw_cuts.specs.Both.{On}
 use Rattle.fw_cuts.specs.Cuts.{Seen, Goes, Writes, Cuts, IsSynced}
 use Rattle.fw_cuts.specs.Private.{Lays}

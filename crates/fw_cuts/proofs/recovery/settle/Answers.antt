@@ -10,7 +10,7 @@ pub returns-clause-at_rest : goal.returns-clause-at_rest
 returns-clause-at_rest g c = λ honest.
     let b = g.F.StoreFiles.seen c.write_again.new.files in
     let e = g.F.StoreFiles.seen c.empty_journal.new.files in
-    let again = c.in_ok-write_again.ensures honest in
+    let again = c.in_ok-write_again.ensures.written honest in
     on_ok_4 c.empty_journal.result (e.held.journal ≡ []) (IsSynced Journal e) (NoneLost Journal e) (LosesNoMore b e) ((from to : ℕ) → IsAtRest from to e)
     (λ none journaled found lost. λ from to.
     all_rests from to e (λ i is. again.found i (lost Store i is)) found (store_synced b e (c.empty_journal.ensures.goes honest) again.synced) journaled none)

@@ -3,7 +3,7 @@ use Rattle.std.specs.Prelude.{IsTrue}
 use Rattle.fw_store.specs.Memory.{is_sound, known_of}
 use Rattle.fw_evidence.specs.Stores.{HoldsNone}
 use Rattle.fw_evidence.specs.declared.error.StoreRefusal.{StoreRefusal}
-use Rattle.fw_evidence.proofs.Opening.{has_room, holds, no_fault, refused}
+use Rattle.fw_evidence.proofs.Opening.{holds, no_fault, refused}
 use Rattle.fw_evidence.proofs.store.meter_in.Goals as goal
 
 pub refusal_of-requires : goal.refusal_of-requires
@@ -14,9 +14,6 @@ refusal_of-requires c =
 
 pub returns-in-Ok-open_kept-clause-meter : goal.returns-in-Ok-open_kept-clause-meter
 returns-in-Ok-open_kept-clause-meter c = holds c.args.bytes.now c.in-Ok.store c.in-Ok-open_kept.meter c.in-Ok.ensures.read c.in-Ok-open_kept.ensures.opened
-
-pub returns-in-Ok-open_kept-clause-room : goal.returns-in-Ok-open_kept-clause-room
-returns-in-Ok-open_kept-clause-room c = has_room c.args.bytes.now c.in-Ok.store c.in-Ok-open_kept.meter c.in-Ok.ensures.read c.in-Ok-open_kept.ensures.opened
 
 pub returns-in-Err-clause-refused : goal.returns-in-Err-clause-refused
 returns-in-Err-clause-refused c =

@@ -1,10 +1,8 @@
-use Rattle.std.proofs.Common.{refl, subst, sym}
+use Rattle.std.proofs.Common.{refl}
 use Rattle.std.specs.Prelude.{IsTrue}
 use Rattle.fw_store.specs.Memory.{device_of, capacity_of, is_sound}
-use Rattle.fw_store.specs.Setup.{IsCapacity}
 use Rattle.fw_store.specs.declared.version.HeaderVersion.TheVariants.{Two}
 use Rattle.fw_image.specs.Fresh.{fresh_meter}
-use Rattle.fw_image.specs.Meter.{Meter}
 use Rattle.fw_evidence.proofs.Opening.{holds_new}
 use Rattle.fw_evidence.proofs.store.new_meter.Goals as goal
 
@@ -23,13 +21,3 @@ returns-clause-new c =
     c.in-Ok.ensures.setup c.in-Ok.ensures.size c.in-Ok.ensures.fresh in
     let sound : IsTrue (is_sound c.in-Ok.store) = rw c.in-Ok.ensures.unfused refl in
     c.in-Ok-open_kept.ensures.again (fresh_meter Two c.args.block_size c.args.capacity c.args.factory.now) there.0 there.1 refl sound
-
-pub returns-clause-room : goal.returns-clause-room
-returns-clause-room c =
-    let there =
-    holds_new c.fresh_is_meter.ensures Two c.args.block_size c.args.capacity c.args.factory.now (capacity_of c.in-Ok.store) (device_of c.in-Ok.store)
-    c.in-Ok.ensures.setup c.in-Ok.ensures.size c.in-Ok.ensures.fresh in
-    let sound : IsTrue (is_sound c.in-Ok.store) = rw c.in-Ok.ensures.unfused refl in
-    subst (λ (m : Meter). IsCapacity m.capacity)
-    (sym (c.in-Ok-open_kept.ensures.again (fresh_meter Two c.args.block_size c.args.capacity c.args.factory.now) there.0 there.1 refl sound))
-    c.in-Ok.ensures.setup.room

@@ -1,4 +1,5 @@
 use Rattle.std.proofs.Common.{rules, ◌≡◌, ◌<◌, ◌≤◌, ◌^◌, ℕ, List, [], ◌∷◌, ◌++◌, length, arith, refl, sym, ap, subst, ◌∙◌, append_assoc}
+use Rattle.fw_blocks.specs.Cuts.{max_image}
 use Rattle.fw_names.specs.Name.{Campaign}
 use Rattle.fw_book.specs.declared.row.Row.{Row}
 use Rattle.fw_book.specs.Contents.{Offered}
@@ -26,7 +27,7 @@ put_campaign-requires-clause-source c =
     let rest : List (ℕ × Offered) = c.next.new.self in
     let next : c.loop-serial.serial-iterator ≡ entry ∷ rest = search (c.in-Some.ensures.steps) in
     let is = (entry_in c.args.book.now i.front rest c.in-Some.serial.now offer c.head-head.ensures.book (i.split ∙ ap (λ (l : List (ℕ × Offered)). i.front ++ l) next)).is_entry in
-    let ends : length offer.image ≤ 16777216 = is.image_ends in
+    let ends : length offer.image ≤ max_image = is.image_ends in
     let fits : length offer.image < 2 ^ 32 = omega (arith, ends) in
     c.source-image.ensures.fits (subst (λ (l : List ℕ). length l < 2 ^ 32) (sym c.image.ensures) fits)
 

@@ -1,17 +1,18 @@
 use Rattle.std.proofs.Common.{◌≡◌, ◌+◌, ◌≤◌, List, ℕ, length, sym, ap, subst, ◌∙◌, arith}
 use Rattle.std.proofs.lemmas.List.{length-take-le}
-use Rattle.fw_undo.specs.Write.{Write}
-use Rattle.fw_undo.specs.Cut.{after_of}
+use Rattle.fw_cuts.specs.Write.{Write}
+use Rattle.fw_cuts.specs.Sectors.{after_of}
 use Rattle.fw_cuts.specs.Both.{Both}
-use Rattle.fw_cuts.specs.Cuts.{Goes}
+use Rattle.fw_cuts.specs.Cuts.{Goes, IsSynced}
 use Rattle.fw_cuts.specs.Rest.{write_on, IsAtRest, IsOldOrNew, IsRecovered}
-use Rattle.fw_cuts.proofs.Goings.{on_ok, on_ok_2}
-use Rattle.fw_store.specs.Device.{Device, with_head}
+use Rattle.fw_cuts.specs.declared.files.Part.TheVariants.{Store}
+use Rattle.fw_cuts.proofs.Goings.{on_ok, on_ok_2, on_ok_3}
+use Rattle.fw_store.specs.Device.{with_head}
 use Rattle.fw_store.specs.StoreBytes.{IsStore, device_at, old_store_size}
 use Rattle.fw_store.specs.Versions.{bytes_of, header_size, version_of}
 use Rattle.fw_whole.specs.Whole.{header_write, IsResting}
 use Rattle.fw_whole.proofs.Stores.{store_within, some_behind}
-use Rattle.fw_whole.proofs.Finding.{each_cut, header_stays, new_device, new_store, same_write}
+use Rattle.fw_whole.proofs.Finding.{each_cut, header_stays, new_device, new_store, quiet_left, same_write}
 use Rattle.fw_whole.proofs.header.write_header.Goals as goal
 
 pub replace-requires : goal.replace-requires
@@ -61,17 +62,19 @@ returns-clause-rests g c = λ honest.
 
 pub returns-clause-stays : goal.returns-clause-stays
 returns-clause-stays g c = λ honest.
+    let a = g.F.StoreFiles.seen c.args.files.now in
     let e = g.F.StoreFiles.seen c.replace.new.files in
     let capacity = c.args.capacity in
-    let header = bytes_of c.args.bytes.now in
-    on_ok_2 c.replace.result
-    (device_at capacity e.held.store ≡ with_head (device_at capacity (g.F.StoreFiles.seen c.args.files.now).held.store) header) (IsResting capacity e)
-    ((left : Both) (made : List ℕ) → e.may_leave left → IsRecovered left.journal left.store made → IsStore made capacity × ((device_at capacity made).head ≡ header))
-    (λ done rests left made may found.
+    let device = with_head (device_at capacity a.held.store) (bytes_of c.args.bytes.now) in
+    on_ok_3 c.replace.result (device_at capacity e.held.store ≡ device) (IsResting capacity e) (IsSynced Store e)
+    ((left : Both) (made : List ℕ) → e.may_leave left → IsRecovered left.journal left.store made → IsStore made capacity × (device_at capacity made ≡ device))
+    (λ done rests synced left made may found.
     let stays = header_stays capacity e left made rests may found in
-    (stays.0, stays.1 ∙ ap (λ (d : Device). d.head) done))
+    let same = quiet_left 618 (old_store_size capacity) e left made rests.rest may found in
+    (stays.0, ap (device_at capacity) (same ∙ synced left may) ∙ done))
     (returns-clause-done g c honest)
     (returns-clause-rests g c honest)
+    (c.replace.ensures.synced honest 618 (old_store_size capacity) (c.requires honest).rest)
 
 pub returns-clause-any_moment : goal.returns-clause-any_moment
 returns-clause-any_moment g c = λ honest left made since found.

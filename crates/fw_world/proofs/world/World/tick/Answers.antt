@@ -3,6 +3,7 @@ use Rattle.std.proofs.lemmas.List.{length-map}
 use Rattle.std.specs.Global.{Vec}
 use Rattle.std.specs.Map.{lookup}
 use Rattle.std.specs.Option.{option_copied_mut}
+use Rattle.fw_blocks.specs.Width.{max_width}
 use Rattle.fw_head.specs.Head.{Head, IsOfferedIn}
 use Rattle.fw_head.specs.Row.{bytes_of}
 use Rattle.fw_world.specs.State.{State, meter_at, sent_to}
@@ -25,10 +26,10 @@ returns-in_err-room_to_send-clause-same c =
     told_err c.from_residual.result _ (head_same _ _ c.self.view_is key _ _ _ _ found (with_head _ c.self.invariant key _ c.in-Some.core.now found refl) refl c.room_to_send.ensures.items)
 
 -- the room that there is for what is to be sent is room for what was made of it
-room_for : (sends : List (Vec ℕ)) (more : List (List ℕ)) (len cap : ℕ) → bytes_of sends ≡ more → (length more ≤ 15 → len + length more ≤ cap) → length sends ≤ 15 → len + length sends ≤ cap
+room_for : (sends : List (Vec ℕ)) (more : List (List ℕ)) (len cap : ℕ) → bytes_of sends ≡ more → (length more ≤ max_width → len + length more ≤ cap) → length sends ≤ max_width → len + length sends ≤ cap
 room_for sends more len cap is room few =
     let long : length more ≡ length sends = sym (ap length is) ∙ length-map sends (λ (datagram : Vec ℕ). datagram.items) in
-    subst (λ (n : ℕ). len + n ≤ cap) long (room (subst (λ (n : ℕ). n ≤ 15) (sym long) few))
+    subst (λ (n : ℕ). len + n ≤ cap) long (room (subst (λ (n : ℕ). n ≤ max_width) (sym long) few))
 
 pub send-requires : goal.send-requires
 send-requires c = room_for _ _ _ _ c.in_ok-sends.ensures.sent c.in_ok-room_to_send.ensures.room c.in_ok-sends.ensures.most

@@ -1,2 +1,0 @@
--- Public vocabulary: the words of public clauses, for callers and readers.
-pub mod Reading

@@ -1,4 +1,0 @@
-mod Spellings
-mod Splices
-mod Mending
-mod OneSector

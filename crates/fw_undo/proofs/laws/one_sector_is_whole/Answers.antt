@@ -1,5 +1,0 @@
-use Rattle.fw_undo.proofs.OneSector.{one_sector_is_whole}
-use Rattle.fw_undo.proofs.laws.one_sector_is_whole.Goals as goal
-
-pub returns : goal.returns
-returns c = one_sector_is_whole
