@@ -17,6 +17,8 @@ use Rattle.{crate}.proofs.{path}.Statement.{{statement}}
 pub {name}_spec : {{M : Type 1}} → statement M
 {name}_spec = ?
 """
+# A body that never ends: it has each type, and calls nothing.
+ENDLESS = "loop {}"
 # How the head of a function begins, before its name.
 HEAD = r"( *(?:pub(?:\([a-z ]+\))? )?(?:final )?(?:const )?(?:unsafe )?fn )"
 
@@ -55,16 +57,25 @@ def with_copies(crate, edits):
     return {path: text for path, text in texts.items() if text != crate.texts.get(path)}, paths
 
 
-def holes(crate, paths):
+def holes(crate, paths, with_bodies=False):
     """The texts by which a check takes each function of a crate by its contract, but those at these paths: a hole stands for its proof, and
-    what was written of that, here None, goes."""
-    texts = {}
+    what was written of that, here None, goes. So does its body, in place of which one stands that never ends, unless it is asked for: what
+    only it calls isn't looked at then."""
+    texts, files = {}, {}
     for it in crate.functions:
-        if it.path not in paths and it.name != "main" and not it.unit.startswith("cycle "):
-            folder = f"proofs/{it.path.replace('::', '/')}"
-            texts.update({path: None for path in (f"{folder}/Answers.antt", f"{folder}/Invariants.antt") if path in crate.texts})
-            texts[f"{folder}{HOLE_FILE}"] = HOLE.format(path=it.path.replace("::", "."), crate=crate.name, name=name_of(it))
-    return texts
+        if it.path in paths or it.name == "main" or it.unit.startswith("cycle "):
+            continue
+        folder = f"proofs/{it.path.replace('::', '/')}"
+        written = [f"{folder}/Answers.antt", f"{folder}/Invariants.antt"]
+        # (that of a `Drop` takes its value apart)
+        if not with_bodies and name_of(it) != "drop" and it.end > it.body + 1:
+            lines = files.setdefault(it.file, crate.texts[it.file].split("\n"))
+            lines[it.body + 1 : it.end] = [ENDLESS, *[""] * (it.end - it.body - 2)]
+            of_closures = f"{folder.rpartition('/')[0]}/fn/{name_of(it)}/"
+            written += [path for path in crate.texts if path.startswith(of_closures)]
+        texts.update({path: None for path in written if path in crate.texts})
+        texts[f"{folder}{HOLE_FILE}"] = HOLE.format(path=it.path.replace("::", "."), crate=crate.name, name=name_of(it))
+    return {**texts, **{file: "\n".join(lines) for file, lines in files.items()}}
 
 
 def name_of(function):
