@@ -102,6 +102,7 @@ def owners_of(head, module, homes):
     params, head = bracketed(head) if head.startswith("<") else ("", head)
     own = re.findall(r"(?:^<|, ?)(?:const )?(\w+)", params)
     of_trait, _, of_type = head.partition(" where ")[0].rpartition(" for ")
+    of_trait = re.sub(r"^(\w+::)+", "", of_trait)
     owner, passed = last_name(of_type), of_type.partition("<")[2]
     if of_trait in ("", "Drop"):
         # (an alias is printed with what it is passed)
@@ -115,8 +116,12 @@ def owners_of(head, module, homes):
 def words_in(text, own):
     """The names of types in a text, as the prover joins them, without parameters of the block's own."""
     names = re.findall(r"\(\)|[\w:]+", re.sub(r"'\w+", "", text))
-    words = ["Unit" if it == "()" else last_name(it) for it in names if it not in own]
-    return [it[:1].upper() + it[1:] for it in words]
+    return ["Unit" if it == "()" else word_of(it) for it in names if it not in own]
+
+
+def word_of(path):
+    """The parts of a path as one word, each with a capital."""
+    return "".join(it[:1].upper() + it[1:] for it in path.split("::"))
 
 
 def bracketed(text):
