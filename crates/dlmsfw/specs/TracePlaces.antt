@@ -4,7 +4,6 @@ use Rattle.std.specs.Option.{option_map}
 use Rattle.fw_disk.specs.declared.reason.Reason.{Reason}
 use Rattle.fw_faults.specs.declared.fault.Fault.{Fault}
 use Rattle.fw_faults.specs.declared.fault.Fault.TheVariants as fault
-use Rattle.fw_host.specs.Sealings.{fault_of_key_file}
 use Rattle.fw_key_files.specs.declared.error.KeyFileError.{KeyFileError}
 use Rattle.fw_key_files.specs.declared.error.KeyFileError.TheVariants as key_file
 use Rattle.fw_cli.specs.Tracing.{fault_of_trace}
@@ -17,6 +16,14 @@ use Rattle.dlmsfw.specs.declared.trace_places.TraceFault.TheVariants as ended
 use Rattle.dlmsfw.specs.declared.trace_places.TracePlace.{TracePlace}
 use Rattle.dlmsfw.specs.declared.trace_places.TracePlace.TheVariants.{Capture, Keys, Plain}
 use Rattle.dlmsfw.specs.declared.trace_places.TracePlaces.{TracePlaces}
+
+-- the fault that says why a key file isn't read
+abbrev pub fault_of_key_file : KeyFileError → Fault
+fault_of_key_file key_file.KeysFault = fault.KeysFault
+fault_of_key_file key_file.KeysReadable = fault.KeysReadable
+fault_of_key_file (key_file.BadKeys line why) = fault.BadKeys line why
+fault_of_key_file key_file.NoRandomness = fault.NoRandomness
+fault_of_key_file key_file.OutOfMemory = fault.OutOfMemory
 
 -- the fault that it is
 abbrev pub trace_fault_of : TraceFault → Fault

@@ -1,7 +1,13 @@
 //! What ended a trace, what that is about, and why it is refused.
 
 ghost use Rattle.std.specs.Prelude.{◌≡◌, Some};
-ghost use Rattle.dlmsfw.specs.TracePlaces.{TellsTraceReason, trace_fault_of, trace_place_of, trace_place_text};
+ghost use Rattle.dlmsfw.specs.TracePlaces.{
+  TellsTraceReason,
+  fault_of_key_file,
+  trace_fault_of,
+  trace_place_of,
+  trace_place_text,
+};
 ghost use Rattle.dlmsfw.specs.declared.trace_places.TraceFault.TheVariants.{Ended};
 
 use crate::options::TraceOptions;
@@ -10,7 +16,6 @@ use crate::refusal::Refusal;
 use fw_cli::TraceError;
 use fw_disk::Reason;
 use fw_faults::Fault;
-use fw_host::fault_of_key_file;
 use fw_key_files::KeyFileError;
 use std::fmt;
 use std::rt::Files;
@@ -36,6 +41,19 @@ impl TraceFault {
             TraceFault::Keys(error) => fault_of_key_file(error),
             TraceFault::Ended(error) => Fault::from(error),
         }
+    }
+}
+
+/// The fault that says why a key file isn't read.
+fn fault_of_key_file(error: KeyFileError) -> Fault
+    ensures { result ≡ fault_of_key_file error }
+{
+    match error {
+        KeyFileError::KeysFault => Fault::KeysFault,
+        KeyFileError::KeysReadable => Fault::KeysReadable,
+        KeyFileError::BadKeys(line, why) => Fault::BadKeys(line, why),
+        KeyFileError::NoRandomness => Fault::NoRandomness,
+        KeyFileError::OutOfMemory => Fault::OutOfMemory,
     }
 }
 

@@ -1,5 +1,5 @@
 -- What a head end cancelled and opened before it leads.
-use Rattle.std.proofs.Common.{◌≡◌, ℕ, ◌+◌, ◌<◌, List, [], ◌∷◌, ◌++◌, ◌∙◌, Option, Some, None, Result, IfOk, take, length, refl, sym, subst, ap, arith}
+use Rattle.std.proofs.Common.{◌≡◌, ℕ, ◌+◌, ◌<◌, List, [], ◌∷◌, ◌++◌, ◌∙◌, Option, Some, None, take, length, refl, sym, subst, ap, arith}
 use Rattle.std.specs.Prelude.{slice_index_or, ◌≢◌}
 use Rattle.std.proofs.lemmas.List.{take_more}
 use Rattle.fw_book.specs.Changes.{empty_book}
@@ -78,14 +78,13 @@ pub opening_none : (asked : Option Opening) → asked ≡ None → IsOpeningOf a
 opening_none asked none = subst (λ (o : Option Opening). IsOpeningOf o None) (sym none) refl
 
 -- the campaigns that a book lacks
-pub openings_some : {A E : Type 0} (asked : Option Opened) (them : Opened) (list meters : List Listed) (image : List ℕ) (book : Contents) (r : Result A E) (parts : A → List Part)
+pub openings_some : (asked : Option Opened) (them : Opened) (list meters : List Listed) (image : List ℕ) (book : Contents) (parts : List Part)
     → asked ≡ Some them → meters ≡ list → image ≡ them.image.items
-    → IfOk r (λ a. AreParts book them.serial (lacking book them.serial them.release image (listed_meters meters)) (parts a))
-    → IfOk r (λ a. AreOpenings asked list book (parts a))
-openings_some {A} {E} asked them list meters image book r parts is same bytes are =
-    subst (λ (o : Option Opened). IfOk r (λ a. AreOpenings o list book (parts a))) (sym is)
-    (subst (λ (l : List Listed). IfOk r (λ a. AreParts book them.serial (lacking book them.serial them.release them.image.items (listed_meters l)) (parts a))) same
-    (subst (λ (bs : List ℕ). IfOk r (λ a. AreParts book them.serial (lacking book them.serial them.release bs (listed_meters meters)) (parts a))) bytes are))
+    → AreParts book them.serial (lacking book them.serial them.release image (listed_meters meters)) parts → AreOpenings asked list book parts
+openings_some asked them list meters image book parts is same bytes are =
+    subst (λ (o : Option Opened). AreOpenings o list book parts) (sym is)
+    (subst (λ (l : List Listed). AreParts book them.serial (lacking book them.serial them.release them.image.items (listed_meters l)) parts) same
+    (subst (λ (bs : List ℕ). AreParts book them.serial (lacking book them.serial them.release bs (listed_meters meters)) parts) bytes are))
 
 pub openings_none : (asked : Option Opened) (list : List Listed) (book : Contents) (parts : List Part) → asked ≡ None → parts ≡ [] → AreOpenings asked list book parts
 openings_none asked list book parts none empty = subst (λ (o : Option Opened). AreOpenings o list book parts) (sym none) empty

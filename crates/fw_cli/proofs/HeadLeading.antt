@@ -1,20 +1,23 @@
 -- Which errors of the command `head` come when, and which options they need.
-use Rattle.std.proofs.Common.{◌≡◌, ◌∙◌, ℕ, List, [], Option, Some, None, Contains, inl, inr, refl, sym, subst, ap}
+use Rattle.std.proofs.Common.{◌≡◌, ℕ, List, [], Option, Contains, inl, inr, refl, sym, subst}
 use Rattle.std.specs.Prelude.{IsTrue, is_some, ◌⊎◌, ◌≢◌, false}
 use Rattle.std.proofs.lemmas.List.Elements.{All-contains, All-nil}
 use Rattle.fw_book.specs.Contents.{Contents}
+use Rattle.fw_book.specs.declared.error.BookError.{BookError}
 use Rattle.fw_kept.specs.declared.error.KeptError.{KeptError}
 use Rattle.fw_kept.specs.declared.error.KeptError.TheVariants as kept
 use Rattle.fw_plan.specs.Ranges.{serials_of}
+use Rattle.fw_plan.specs.declared.error.PlanError.{PlanError}
+use Rattle.fw_plan.specs.declared.error.PlanError.TheVariants as plan
 use Rattle.fw_plan.specs.declared.part.Part.{Part}
 use Rattle.fw_plan.specs.declared.ranges.SerialRange.{SerialRange}
 use Rattle.fw_rollout.specs.declared.error.Stop.{Stop}
 use Rattle.fw_rollout.specs.declared.error.Stop.TheVariants as stop
-use Rattle.fw_faults.specs.declared.fault.Fault.{Fault}
-use Rattle.fw_faults.specs.declared.fault.Fault.TheVariants as fault
-use Rattle.fw_host.specs.Openings.{CancelsRefused, PartsRefused, RefusesOne, RefusesOneCancel}
+use Rattle.fw_host.specs.Openings.{CancelsRefused, RefusesOne, RefusesOneCancel}
 use Rattle.fw_host.specs.declared.error.BookFileError.{BookFileError}
 use Rattle.fw_host.specs.declared.error.BookFileError.TheVariants as old_book
+use Rattle.fw_host.specs.declared.error.CancelsError.{CancelsError}
+use Rattle.fw_host.specs.declared.error.CancelsError.TheVariants as cancels_error
 use Rattle.fw_host.specs.declared.error.CaptureFileError.{CaptureFileError}
 use Rattle.fw_host.specs.declared.error.CaptureFileError.TheVariants as capture
 use Rattle.fw_host.specs.declared.error.HeadKeysError.{HeadKeysError}
@@ -24,7 +27,7 @@ use Rattle.fw_host.specs.declared.error.NewBookError.TheVariants as new_book
 use Rattle.fw_host.specs.declared.error.NewCounterError.{NewCounterError}
 use Rattle.fw_host.specs.declared.error.NewCounterError.TheVariants as new_counter
 use Rattle.fw_cli.specs.Faults.{MakesCounter}
-use Rattle.fw_cli.specs.HeadErrors.{ComesBeforeLines, IsAskedFor, IsOfBeginning, IsOfJudging, IsOfLeading, IsOfOpened, IsOfOpening, IsOfOpeningSetup, head_of_capture, head_of_closing, head_of_keys, head_of_list, head_of_new_book, head_of_new_counter, head_of_old_book, head_of_sealing, head_of_stop, head_of_telling, judging_error, not_cancelled, not_opened}
+use Rattle.fw_cli.specs.HeadErrors.{ComesBeforeLines, IsAskedFor, IsOfBeginning, IsOfJudging, IsOfLeading, IsOfOpened, IsOfOpening, IsOfOpeningSetup, head_of_cancels, head_of_capture, head_of_closing, head_of_keys, head_of_list, head_of_new_book, head_of_new_counter, head_of_old_book, head_of_plan, head_of_sealing, head_of_stop, head_of_telling, not_cancelled, not_opened}
 use Rattle.fw_cli.specs.Reasons.{IsClosingKeyed}
 use Rattle.fw_cli.specs.Sealing.{IsKeyed}
 use Rattle.fw_cli.specs.declared.error.ClosingError.{ClosingError}
@@ -107,49 +110,29 @@ contains_none : (n : ℕ) → Contains [] n → ⊥
 contains_none n there = All-contains (λ (m : ℕ). ⊥) [] n (All-nil (λ (m : ℕ). ⊥)) there
 
 -- what is refused to be cancelled was named
-refused_is_named : (book : Contents) (named : List SerialRange) (f : Fault) → RefusesOneCancel book (serials_of book named) f → named ≢ []
-refused_is_named book named f one none = contains_none one.serial (subst (λ (l : List SerialRange). Contains (serials_of book l) one.serial) none one.within)
+refused_is_named : (book : Contents) (named : List SerialRange) (refusal : BookError) → RefusesOneCancel book (serials_of book named) refusal → named ≢ []
+refused_is_named book named refusal one none = contains_none one.serial (subst (λ (l : List SerialRange). Contains (serials_of book l) one.serial) none one.within)
 
-cancel_is_judged : {X : Type 0} (book : Contents) (named : List SerialRange) (opened : Option X) (f : Fault) → RefusesOneCancel book (serials_of book named) f
-    → IsOfJudging named opened (judging_error f)
-cancel_is_judged {X} book named opened f one =
-    let (e, is, why) = one.refused in subst (λ (x : Fault). IsOfJudging named opened (judging_error x)) (sym is) (refused_is_named book named f one)
-
-cancels_fault : {X : Type 0} (book : Contents) (named : List SerialRange) (opened : Option X) (f : Fault) → CancelsRefused book (serials_of book named) f
-    → IsOfJudging named opened (judging_error f)
-cancels_fault {X} book named opened fault.OutOfMemory is = tt
-cancels_fault {X} book named opened f is = cancel_is_judged book named opened f is
-
-pub cancels_are_judged : {X : Type 0} (book : Contents) (named : List SerialRange) (opened : Option X) (e : HeadError)
-    → ((f : Fault) × (e ≡ judging_error f) × CancelsRefused book (serials_of book named) f) → IsOfJudging named opened e
-cancels_are_judged {X} book named opened e (f, is, why) = subst (λ (x : HeadError). IsOfJudging named opened x) (sym is) (cancels_fault book named opened f why)
+pub cancels_are_judged : {X : Type 0} (book : Contents) (named : List SerialRange) (opened : Option X) (e : CancelsError) → CancelsRefused book (serials_of book named) e
+    → IsOfJudging named opened (head_of_cancels e)
+cancels_are_judged {X} book named opened (cancels_error.Refused refusal) one = refused_is_named book named refusal one
+cancels_are_judged {X} book named opened cancels_error.OutOfMemory is = tt
 
 pub opened_is_judged : {X Y : Type 0} (named : List Y) (opened : Option X) (e : HeadError) → IsOfOpened opened e → IsOfJudging named opened e
 opened_is_judged {X} {Y} named opened (head.CancelRefused refusal) is = absurd is
 opened_is_judged {X} {Y} named opened e is = is
 
-parts_fault : {X : Type 0} (opened : Option X) (book : Contents) (serial : ℕ) (meters : List ℕ) (f : Fault) → IsTrue (is_some opened) → PartsRefused book serial meters f
-    → IsOfOpened opened (judging_error f)
-parts_fault {X} opened book serial meters fault.BadSetup some is = some
-parts_fault {X} opened book serial meters fault.OutOfMemory some is = tt
-parts_fault {X} opened book serial meters f some is = absurd is
-
-pub parts_are_opened : {X : Type 0} (opened : Option X) (book : Contents) (serial : ℕ) (meters : List ℕ) (e : HeadError) → IsTrue (is_some opened)
-    → ((f : Fault) × (e ≡ judging_error f) × PartsRefused book serial meters f) → IsOfOpened opened e
-parts_are_opened {X} opened book serial meters e some (f, is, why) =
-    subst (λ (x : HeadError). IsOfOpened opened x) (sym is) (parts_fault opened book serial meters f some why)
+pub plan_is_opened : {X : Type 0} (opened : Option X) (e : PlanError) → IsTrue (is_some opened) → IsOfOpened opened (head_of_plan e)
+plan_is_opened {X} opened plan.NoSerial some = some
+plan_is_opened {X} opened plan.OutOfMemory some = tt
 
 pub refused_is_opened : {X : Type 0} (opened : Option X) (book : Contents) (image : List ℕ) (parts : List Part) (e : HeadError) → IsTrue (is_some opened)
-    → ((f : Fault) × (e ≡ judging_error f) × RefusesOne book image parts f) → IsOfOpened opened e
-refused_is_opened {X} opened book image parts e some (f, is, one) =
-    let (refusal, refused, why) = one.refused in
-    subst (λ (x : HeadError). IsOfOpened opened x) (sym (is ∙ ap (λ (x : Fault). judging_error x) refused)) some
+    → ((refusal : BookError) × (e ≡ head.OpenRefused refusal) × RefusesOne book image parts refusal) → IsOfOpened opened e
+refused_is_opened {X} opened book image parts e some (refusal, is, one) = subst (λ (x : HeadError). IsOfOpened opened x) (sym is) some
 
-pub refused_is_opening : (book : Contents) (image : List ℕ) (parts : List Part) (e : HeadError) → ((f : Fault) × (e ≡ judging_error f) × RefusesOne book image parts f)
-    → IsOfOpening e
-refused_is_opening book image parts e (f, is, one) =
-    let (refusal, refused, why) = one.refused in
-    subst (λ (x : HeadError). IsOfOpening x) (sym (is ∙ ap (λ (x : Fault). judging_error x) refused)) tt
+pub refused_is_opening : (book : Contents) (image : List ℕ) (parts : List Part) (e : HeadError)
+    → ((refusal : BookError) × (e ≡ head.OpenRefused refusal) × RefusesOne book image parts refusal) → IsOfOpening e
+refused_is_opening book image parts e (refusal, is, one) = subst (λ (x : HeadError). IsOfOpening x) (sym is) tt
 
 -- ---- what comes after the first line
 

@@ -2,12 +2,16 @@
 use Rattle.std.specs.Prelude.{◌≡◌, ◌≢◌, List, [], Option, IsTrue, false, is_some}
 use Rattle.fw_kept.specs.declared.error.KeptError.{KeptError}
 use Rattle.fw_kept.specs.declared.error.KeptError.TheVariants as kept
+use Rattle.fw_plan.specs.declared.error.PlanError.{PlanError}
+use Rattle.fw_plan.specs.declared.error.PlanError.TheVariants as plan
 use Rattle.fw_rollout.specs.declared.error.Stop.{Stop}
 use Rattle.fw_rollout.specs.declared.error.Stop.TheVariants as stop
 use Rattle.fw_faults.specs.declared.fault.Fault.{Fault}
 use Rattle.fw_faults.specs.declared.fault.Fault.TheVariants as fault
 use Rattle.fw_host.specs.declared.error.BookFileError.{BookFileError}
 use Rattle.fw_host.specs.declared.error.BookFileError.TheVariants as old_book
+use Rattle.fw_host.specs.declared.error.CancelsError.{CancelsError}
+use Rattle.fw_host.specs.declared.error.CancelsError.TheVariants as cancels_error
 use Rattle.fw_host.specs.declared.error.CaptureFileError.{CaptureFileError}
 use Rattle.fw_host.specs.declared.error.CaptureFileError.TheVariants as capture
 use Rattle.fw_host.specs.declared.error.HeadKeysError.{HeadKeysError}
@@ -108,12 +112,15 @@ not_opened kept.Full = Full
 not_opened kept.BookFault = BookFault
 not_opened kept.OutOfMemory = OutOfMemory
 
--- if one isn't let be cancelled or opened
-abbrev pub judging_error : Fault → HeadError
-judging_error fault.BadSetup = BadSetup
-judging_error (fault.OpenRefused refusal) = OpenRefused refusal
-judging_error (fault.CancelRefused refusal) = CancelRefused refusal
-judging_error f = OutOfMemory
+-- if one isn't let be cancelled
+abbrev pub head_of_cancels : CancelsError → HeadError
+head_of_cancels (cancels_error.Refused refusal) = CancelRefused refusal
+head_of_cancels cancels_error.OutOfMemory = OutOfMemory
+
+-- if no serial numbers are free for those that are opened
+abbrev pub head_of_plan : PlanError → HeadError
+head_of_plan plan.NoSerial = BadSetup
+head_of_plan plan.OutOfMemory = OutOfMemory
 
 -- if the head end stopped
 abbrev pub head_of_stop : Stop → HeadError

@@ -1,12 +1,10 @@
 //! What a head end cancels and opens in its book: it is judged before anything is written, and done once datagrams are received.
 
 ghost use Rattle.std.specs.Prelude.{◌≡◌, ◌≢◌, [], All, IfErr, IfOk, OnErr, OnOk, Some};
-ghost use Rattle.fw_faults.specs.declared.fault.Fault.{Fault};
+ghost use Rattle.fw_book.specs.declared.error.BookError.{BookError as Refusal};
 ghost use Rattle.fw_head.specs.Head.{opened_head};
 ghost use Rattle.fw_kept.specs.Head.{head_of};
-ghost use Rattle.fw_plan.specs.Openings.{AreParts, lacking};
-ghost use Rattle.fw_plan.specs.Ranges.{serials_of};
-ghost use Rattle.fw_host.specs.Openings.{CancelsRefused, IsCancelledBy, IsTakenBy, PartsRefused, RefusesOne, listed_meters};
+ghost use Rattle.fw_host.specs.Openings.{IsTakenBy, RefusesOne};
 ghost use Rattle.fw_host.specs.Waves.{listed_in};
 ghost use Rattle.fw_cli.specs.Beginning.{AreChanges, AreOpenings, Begins, IsOpeningOf, opened_all};
 ghost use Rattle.fw_cli.specs.Cancelling.{cancelled_all};
@@ -16,7 +14,6 @@ ghost use Rattle.fw_cli.specs.HeadErrors.{
   IsOfOpened,
   IsOfOpening,
   IsOfOpeningSetup,
-  judging_error,
   not_cancelled,
   not_opened,
 };
@@ -27,7 +24,6 @@ use crate::error::FileError;
 use crate::head::{Asked, bytes_of_file, cancel_one};
 use crate::head_error::{HeadError, HeadFailure};
 use fw_book::{Book, BookError};
-use fw_faults::Fault;
 use fw_host::{Lines, Opening, cancels_of, check_parts, date, parts_of};
 use fw_journal::FileDevice;
 use fw_kept::{KeptError, KeptHead};
@@ -107,64 +103,20 @@ pub(crate) fn judge(
     ensures judged { IfOk result (λ changes. IsJudged book.now asked.now.opened changes) }
     ensures faults { IfErr result (IsOfJudging named.now asked.now.opened) }
 {
-    let cancels = cancelled_of(alloc, book, named)?;
+    let cancels = cancels_of(alloc, book, named)?;
     let parts = missing_of(alloc, book, asked)?;
     check_opened(book, &cancels, &parts, asked)?;
     Ok(Changes { cancels, parts })
 }
 
-/// The serial numbers of the campaigns that these name in a book, which lets each of them be cancelled.
-fn cancelled_of(alloc: Global, book: &Book, named: &[SerialRange]) -> Result<Vec<u32>, HeadError>
-    ensures serials { IfOk result (λ serials. serials.items ≡ serials_of book.now named.now) }
-    ensures admitted { IfOk result (λ serials. All (IsCancelledBy book.now) serials.items) }
-    ensures refused { IfErr result (λ e. (fault : Fault) × (e ≡ judging_error fault) × CancelsRefused book.now (serials_of book.now named.now) fault) }
-{
-    match cancels_of(alloc, book, named) {
-        Ok(serials) => Ok(serials),
-        Err(fault) => Err(judging_error(fault)),
-    }
-}
-
-/// The campaigns that a book lacks for the meters of this list, as [`parts_of`] has them.
-fn lacking_of(
-    alloc: Global,
-    book: &Book,
-    serial: u32,
-    release: u32,
-    image: &[u8],
-    list: &[Listed],
-) -> Result<Vec<Part>, HeadError>
-    ensures parts { IfOk result (λ parts. AreParts book.now serial (lacking book.now serial release image.now (listed_meters list.now)) parts.items) }
-    ensures refused { IfErr result (λ e. (fault : Fault) × (e ≡ judging_error fault)
-        × PartsRefused book.now serial (lacking book.now serial release image.now (listed_meters list.now)) fault) }
-{
-    match parts_of(alloc, book, serial, release, image, list) {
-        Ok(parts) => Ok(parts),
-        Err(fault) => Err(judging_error(fault)),
-    }
-}
-
 /// Checks that a book takes each of these campaigns of this image.
 fn check_all(book: &Book, parts: &[Part], image: &[u8]) -> Result<(), HeadError>
     ensures taken { OnOk result (All (IsTakenBy book.now image.now) parts.now) }
-    ensures refused { IfErr result (λ e. (fault : Fault) × (e ≡ judging_error fault) × RefusesOne book.now image.now parts.now fault) }
+    ensures refused { IfErr result (λ e. (refusal : Refusal) × (e ≡ HeadError.OpenRefused refusal) × RefusesOne book.now image.now parts.now refusal) }
 {
     match check_parts(book, parts, image) {
         Ok(()) => Ok(()),
-        Err(fault) => Err(judging_error(fault)),
-    }
-}
-
-/// Why nothing is led, if something isn't let be cancelled or opened.
-fn judging_error(fault: Fault) -> HeadError
-    ensures { result ≡ judging_error fault }
-{
-    match fault {
-        Fault::BadSetup => HeadError::BadSetup,
-        Fault::OpenRefused(refusal) => HeadError::OpenRefused(refusal),
-        Fault::CancelRefused(refusal) => HeadError::CancelRefused(refusal),
-        // No other comes of it.
-        _ => HeadError::OutOfMemory,
+        Err(refusal) => Err(HeadError::OpenRefused(refusal)),
     }
 }
 
@@ -173,17 +125,18 @@ fn missing_of(alloc: Global, book: &Book, asked: &Asked) -> Result<Vec<Part>, He
     ensures parts { IfOk result (λ parts. AreOpenings asked.now.opened (listed_in asked.now.list) book.now parts.items) }
     ensures faults { IfErr result (IsOfOpened asked.now.opened) }
 {
-    match &asked.opened {
-        Some(opened) => lacking_of(
-            alloc,
-            book,
-            opened.serial,
-            opened.release,
-            &opened.image,
-            asked.list.meters().meters(),
-        ),
-        None => Ok(Vec::new(alloc)),
-    }
+    let list = asked.list.meters().meters();
+    let Some(opened) = &asked.opened else {
+        return Ok(Vec::new(alloc));
+    };
+    Ok(parts_of(
+        alloc,
+        book,
+        opened.serial,
+        opened.release,
+        &opened.image,
+        list,
+    )?)
 }
 
 /// Checks that a book takes each of these campaigns of what is opened, if none is cancelled first.

@@ -4,6 +4,7 @@ ghost use Rattle.std.specs.Prelude.{◌≡◌, ◌≢◌, None};
 ghost use Rattle.fw_journal.specs.File.{cause_of};
 ghost use Rattle.fw_cli.specs.HeadErrors.{
   fault_of_head,
+  head_of_cancels,
   head_of_capture,
   head_of_closing,
   head_of_keys,
@@ -11,6 +12,7 @@ ghost use Rattle.fw_cli.specs.HeadErrors.{
   head_of_new_book,
   head_of_new_counter,
   head_of_old_book,
+  head_of_plan,
   head_of_sealing,
   head_of_stop,
   head_of_telling,
@@ -23,9 +25,12 @@ use crate::error::{ClosingError, ListFileError, SealingError, TellingError};
 use fw_book::BookError;
 use fw_disk::{Because, Reason};
 use fw_faults::Fault;
-use fw_host::{BookFileError, CaptureFileError, HeadKeysError, NewBookError, NewCounterError};
+use fw_host::{
+    BookFileError, CancelsError, CaptureFileError, HeadKeysError, NewBookError, NewCounterError,
+};
 use fw_journal::FileDevice;
 use fw_keys::BadLine;
+use fw_plan::PlanError;
 use fw_port::SocketError;
 use fw_rollout::Stop;
 use std::alloc::AllocError;
@@ -225,6 +230,28 @@ impl From<TellingError> for HeadError {
         match error {
             TellingError::Output => HeadError::Output,
             TellingError::OutOfMemory => HeadError::OutOfMemory,
+        }
+    }
+}
+
+impl From<PlanError> for HeadError {
+    ghost from_gives = { λ error e. e ≡ head_of_plan error };
+
+    fn from(error: PlanError) -> HeadError {
+        match error {
+            PlanError::NoSerial => HeadError::BadSetup,
+            PlanError::OutOfMemory => HeadError::OutOfMemory,
+        }
+    }
+}
+
+impl From<CancelsError> for HeadError {
+    ghost from_gives = { λ error e. e ≡ head_of_cancels error };
+
+    fn from(error: CancelsError) -> HeadError {
+        match error {
+            CancelsError::Refused(refusal) => HeadError::CancelRefused(refusal),
+            CancelsError::OutOfMemory => HeadError::OutOfMemory,
         }
     }
 }

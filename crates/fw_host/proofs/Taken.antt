@@ -4,9 +4,11 @@ use Rattle.std.specs.Prelude.{slice_index_or}
 use Rattle.std.proofs.lemmas.List.{take_more}
 use Rattle.std.proofs.lemmas.List.Elements.{All-push, Contains-get_or}
 use Rattle.fw_book.specs.Contents.{Contents}
-use Rattle.fw_faults.specs.declared.fault.Fault.{Fault}
-use Rattle.fw_faults.specs.declared.fault.Fault.TheVariants as fault
-use Rattle.fw_host.specs.Openings.{CancelsRefused, RefusesCancel, RefusesOneCancel}
+use Rattle.fw_book.specs.declared.error.BookError.{BookError}
+use Rattle.fw_plan.specs.Openings.{PartsRefused as NoParts}
+use Rattle.fw_plan.specs.declared.error.PlanError.{PlanError}
+use Rattle.fw_plan.specs.declared.error.PlanError.TheVariants as plan
+use Rattle.fw_host.specs.Openings.{PartsRefused, RefusesCancel, RefusesOneCancel}
 
 -- a campaign more
 pub one_more : {X : Type 0} (P : X → Type 0) (xs : List X) (i : ℕ) (x : X) → P x → i < length xs → All P (take i xs)
@@ -19,11 +21,11 @@ pub one_within : {X : Type 0} (xs : List X) (i : ℕ) (x : X) → i < length xs 
 one_within {X} xs i x within at = subst (Contains xs) at (Contains-get_or xs i x within)
 
 -- one that is refused is one of them
-pub cancel_within : (book : Contents) (serials : List ℕ) (i serial : ℕ) (f : Fault) → i < length serials → RefusesCancel book serial f
-    → slice_index_or serials i serial ≡ serial → RefusesOneCancel book serials f
-cancel_within book serials i serial f within refused at = record { serial = serial; within = one_within serials i serial within at; refused = refused }
+pub cancel_within : (book : Contents) (serials : List ℕ) (i serial : ℕ) (e : BookError) → i < length serials → RefusesCancel book serial e
+    → slice_index_or serials i serial ≡ serial → RefusesOneCancel book serials e
+cancel_within book serials i serial e within refused at = record { serial = serial; within = one_within serials i serial within at; refused = refused }
 
--- a refusal of one of them is a refusal
-pub one_refused : (book : Contents) (serials : List ℕ) (f : Fault) → RefusesOneCancel book serials f → CancelsRefused book serials f
-one_refused book serials fault.OutOfMemory is = tt
-one_refused book serials f is = is
+-- why no campaigns are planned, which may want memory before
+pub parts_refused : (book : Contents) (serial : ℕ) (meters : List ℕ) (e : PlanError) → NoParts book serial meters e → PartsRefused book serial meters e
+parts_refused book serial meters plan.NoSerial is = is
+parts_refused book serial meters plan.OutOfMemory is = tt

@@ -6,8 +6,6 @@ use Rattle.std.specs.declared.net.socket_addr.SocketAddr.{SocketAddr}
 use Rattle.std.specs.declared.net.socket_addr.SocketAddr.TheVariants as socket
 use Rattle.std.specs.declared.net.socket_addr.SocketAddrV4.{SocketAddrV4}
 use Rattle.fw_counter.specs.Reserved.{Reserves}
-use Rattle.fw_key_files.specs.declared.error.KeyFileError.{KeyFileError}
-use Rattle.fw_key_files.specs.declared.error.KeyFileError.TheVariants as key_file
 use Rattle.fw_keys.specs.declared.entry.Entry.{Entry}
 use Rattle.fw_keys.specs.KeyFiles.{SpellsHeadKeys, SpellsMeterKeys}
 use Rattle.fw_keys.specs.Links.{Links as KeyLinks, HasNoEnd, ends_of}
@@ -18,7 +16,7 @@ use Rattle.fw_sealport.specs.declared.links.Links.{Links}
 use Rattle.fw_sealport.specs.declared.peer.Peer.{Peer}
 use Rattle.fw_sealport.specs.declared.window.Order.{Order}
 use Rattle.fw_faults.specs.declared.fault.Fault.{Fault}
-use Rattle.fw_faults.specs.declared.fault.Fault.TheVariants.{KeysFault, KeysReadable, BadKeys, NoKey, NoCounter, CounterExists, CounterLocked, CounterFault, NoRandomness, OutOfMemory}
+use Rattle.fw_faults.specs.declared.fault.Fault.TheVariants.{KeysFault, KeysReadable, BadKeys, NoKey, NoCounter, CounterExists, CounterLocked, CounterFault, OutOfMemory}
 
 -- ---- links
 
@@ -93,14 +91,6 @@ abbrev pub LeavesNewCounter : {D : Type 0} → (D → List ℕ → Type 0) → D
 LeavesNewCounter may_leave device = (left : List ℕ) → may_leave device left → Reserves left 0
 
 -- ---- the faults
-
--- the fault that says why a key file wasn't read or made
-abbrev pub fault_of_key_file : KeyFileError → Fault
-fault_of_key_file key_file.KeysFault = KeysFault
-fault_of_key_file key_file.KeysReadable = KeysReadable
-fault_of_key_file (key_file.BadKeys line why) = BadKeys line why
-fault_of_key_file key_file.NoRandomness = NoRandomness
-fault_of_key_file key_file.OutOfMemory = OutOfMemory
 
 -- of the key file of a meter
 abbrev pub IsOfMeterKeys : Fault → Type 0

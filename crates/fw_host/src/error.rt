@@ -1,4 +1,4 @@
-//! Why a file of a command isn't read, made or gone on with.
+//! Why a file of a command isn't read, made or gone on with, and why campaigns aren't let be cancelled.
 
 ghost use Rattle.std.specs.Prelude.{◌≡◌};
 ghost use Rattle.fw_faults.specs.declared.fault.Fault.TheVariants.{BadSetup};
@@ -18,10 +18,12 @@ ghost use Rattle.fw_host.specs.Faults.{
 ghost use Rattle.fw_host.specs.Heads.{IsOfNewBook, IsOfOldBook};
 ghost use Rattle.fw_host.specs.Meters.{IsOfSetup, IsOfStore};
 ghost use Rattle.fw_host.specs.Sealings.{IsOfHeadKeys, IsOfMeterKeys, IsOfNewCounter, IsOfOldCounter};
+ghost use Rattle.fw_host.specs.declared.error.CancelsError.TheVariants as cancels;
 ghost use Rattle.fw_host.specs.declared.error.HeadKeysError.TheVariants as head_keys;
 ghost use Rattle.fw_host.specs.declared.error.ListError.TheVariants as list;
 ghost use Rattle.fw_host.specs.declared.error.NewStoreError.TheVariants as new_store;
 
+use fw_book::BookError;
 use fw_faults::Fault;
 use fw_image::OpenError;
 use fw_journal::JournalError;
@@ -476,5 +478,22 @@ impl From<HeadKeysError> for Fault {
             HeadKeysError::NoKey(meter) => Fault::NoKey(meter),
             HeadKeysError::OutOfMemory => Fault::OutOfMemory,
         }
+    }
+}
+
+/// Why the campaigns that are to be cancelled in a book aren't named, or one of them isn't let be cancelled.
+#[derive(Clone, Copy)]
+pub enum CancelsError {
+    /// The book refuses to cancel one of them.
+    Refused(BookError),
+    /// Memory was refused.
+    OutOfMemory,
+}
+
+impl From<AllocError> for CancelsError {
+    ghost from_gives = { λ _ e. e ≡ cancels.OutOfMemory };
+
+    fn from(_error: AllocError) -> CancelsError {
+        CancelsError::OutOfMemory
     }
 }

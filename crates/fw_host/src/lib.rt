@@ -47,15 +47,15 @@ pub use counter_file::{check_no_counter, make_counters, open_counters};
 pub use datagram_port::{ClosedBy, DatagramPort};
 pub use dating::date;
 pub use error::{
-    BookFileError, CaptureFileError, CounterFileError, HeadKeysError, ListError, MeterKeysError,
-    NewBookError, NewCounterError, NewStoreError, StoreFileError,
+    BookFileError, CancelsError, CaptureFileError, CounterFileError, HeadKeysError, ListError,
+    MeterKeysError, NewBookError, NewCounterError, NewStoreError, StoreFileError,
 };
 pub use event_file::EventFile;
 pub use head_book::{BookOptions, open_book};
 pub use head_lines::untaken_line;
 pub use head_new_book::{check_absent, make_book};
 pub use head_opening::{
-    Opening, cancel, cancels_of, check_cancel, check_parts, listed_meters, open_part, parts_of,
+    Opening, cancels_of, check_cancel, check_parts, listed_meters, parts_of,
 };
 pub use head_port::UdpHeadPort;
 pub use head_progress::{HeadProgress, ProgressOutput, Unwritten};
@@ -65,7 +65,7 @@ pub use meter_lines::listening_line;
 pub use meter_list::read_list;
 pub use meter_store::{NewMeter, NewStore, found_meter};
 pub use metrics_file::MetricsFile;
-pub use sealing::{Sealing, SealingOptions, fault_of_key_file, head_links, meter_links};
+pub use sealing::{Sealing, SealingOptions, head_links, meter_links};
 pub use strangers::Strangers;
 pub use synced_sink::SyncedSink;
 pub use wave_list::{Planned, WaveList};

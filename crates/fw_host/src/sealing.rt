@@ -14,13 +14,11 @@ ghost use Rattle.fw_host.specs.Sealings.{
   IsNamed,
   LacksKey,
   Shows,
-  fault_of_key_file,
 };
 
 use crate::error::{HeadKeysError, MeterKeysError};
 use fw_counter::KeptCounters;
 use fw_disk::Because;
-use fw_faults::Fault;
 use fw_journal::FileDevice;
 use fw_key_files::{KeyFileError, head_keys, meter_keys};
 use fw_keys::KeyFile;
@@ -206,18 +204,5 @@ fn not_read_by_head(because: Because<KeyFileError>) -> Because<HeadKeysError>
     Because {
         error,
         reason: because.reason,
-    }
-}
-
-/// The fault that says why a key file wasn't read or made.
-pub fn fault_of_key_file(error: KeyFileError) -> Fault
-    ensures { result ≡ fault_of_key_file error }
-{
-    match error {
-        KeyFileError::KeysFault => Fault::KeysFault,
-        KeyFileError::KeysReadable => Fault::KeysReadable,
-        KeyFileError::BadKeys(line, why) => Fault::BadKeys(line, why),
-        KeyFileError::NoRandomness => Fault::NoRandomness,
-        KeyFileError::OutOfMemory => Fault::OutOfMemory,
     }
 }

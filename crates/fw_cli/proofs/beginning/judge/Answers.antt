@@ -8,8 +8,7 @@ use Rattle.fw_cli.proofs.beginning.judge.Goals as goal
 pub returns-in_err-cancels-clause-faults : goal.returns-in_err-cancels-clause-faults
 returns-in_err-cancels-clause-faults c =
     let passed = err_from_is_err_and c.from_residual.result c.from_residual.ensures.1 in
-    let same : passed.0 ≡ c.in_err-cancels.field-0.0 = cc passed.2 in
-    passed_to c.from_residual.result (IsOfJudging c.args.named.now c.args.asked.now.opened) passed.0 _ passed.1 same
+    passed_to c.from_residual.result (IsOfJudging c.args.named.now c.args.asked.now.opened) passed.0 _ passed.1 passed.2
     (cancels_are_judged c.args.book.now c.args.named.now c.args.asked.now.opened c.in_err-cancels.field-0.0 c.in_err-cancels.ensures.refused)
 
 pub returns-in_err-parts-clause-faults : goal.returns-in_err-parts-clause-faults
