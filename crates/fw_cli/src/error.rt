@@ -1,11 +1,10 @@
 //! Why a file that a command reads isn't read.
 
 ghost use Rattle.std.specs.Prelude.{◌≡◌};
-ghost use Rattle.fw_cli.specs.Private.{fault_of_list_file, of_file, of_list};
+ghost use Rattle.fw_cli.specs.Private.{of_file, of_list};
 ghost use Rattle.fw_cli.specs.Sealing.{sealing_of_new, sealing_of_old};
 ghost use Rattle.fw_cli.specs.declared.error.TellingError.TheVariants as telling;
 
-use fw_faults::Fault;
 use fw_host::{CounterFileError, ListError, NewCounterError};
 use std::alloc::AllocError;
 
@@ -49,18 +48,6 @@ impl From<ListError> for ListFileError {
         match error {
             ListError::BadList(number) => ListFileError::BadList(number),
             ListError::OutOfMemory => ListFileError::OutOfMemory,
-        }
-    }
-}
-
-impl From<ListFileError> for Fault {
-    ghost from_gives = { λ error fault. fault ≡ fault_of_list_file error };
-
-    fn from(error: ListFileError) -> Fault {
-        match error {
-            ListFileError::ListFault => Fault::ListFault,
-            ListFileError::BadList(number) => Fault::BadList(number),
-            ListFileError::OutOfMemory => Fault::OutOfMemory,
         }
     }
 }

@@ -1,4 +1,4 @@
--- Public vocabulary: the captures of daemons: what they get of a datagram, and the faults that end one.
+-- Public vocabulary: the captures of daemons: what they get of a datagram, and which captures are foreign.
 use Rattle.std.specs.Prelude.{◌≡◌, ◌⊎◌, ℕ, Bool, true, false, MatchBool, nat_lt, List, [], ◌∷◌, length, map, take, Option, Some, None, Err, if◌then◌else◌}
 use Rattle.fw_capture.specs.Spelling.{file_header, packet_bytes}
 use Rattle.std.specs.HashSet.{HashSet}
@@ -14,12 +14,10 @@ use Rattle.fw_daemon.specs.Daemon.{one_more}
 use Rattle.fw_port.specs.declared.port.Arrival.{Arrival}
 use Rattle.fw_port.specs.declared.port.Patience.{Patience}
 use Rattle.fw_port.specs.declared.port.Patience.TheVariants.{Waits, Polls}
-use Rattle.fw_faults.specs.declared.fault.Fault.{Fault}
 use Rattle.fw_host.specs.declared.capture_start.Started.{Started}
 use Rattle.fw_host.specs.declared.capture_start.Started.TheVariants as started
 use Rattle.fw_host.specs.declared.strangers.Strangers.{Strangers}
 use Rattle.fw_host.specs.Strangers.{is_stranger}
-use Rattle.fw_faults.specs.declared.fault.Fault.TheVariants as faults
 
 -- what a sink takes by a call
 module _ {S : Type 0} (takes : S → S → List ℕ → Type 0) where
@@ -116,9 +114,3 @@ CapturesArrival takes s has_turns at patience (Some a) buffer first last =
 -- a capture that isn't gone on with: its file header has a fault, or something else than less than a record stands behind its whole records
 abbrev pub IsForeign : List ℕ → Type 0
 IsForeign capture = ((fault : CaptureFault) × (header_at capture ≡ Err fault)) ⊎ ((offset : ℕ) × IsForeignAt capture offset)
-
--- of a capture of a daemon
-abbrev pub IsOfCapture : Fault → Type 0
-IsOfCapture faults.CaptureFault = Unit {0}
-IsOfCapture faults.ForeignCapture = Unit {0}
-IsOfCapture fault = ⊥

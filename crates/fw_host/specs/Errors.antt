@@ -26,7 +26,7 @@ store_error opening.Fault = store.Device
 store_error opening.BadHeader = store.BadHeader
 store_error opening.BadImage = store.BadImage
 
--- the file of a book that is there
+-- the file of a book that is there: at `Locked` the lock on a book is another process's
 abbrev pub old_book_error : JournalError → BookFileError
 old_book_error (journal.BadBook offset) = old_book.BadBook offset
 old_book_error journal.NotEmpty = old_book.BookFault

@@ -1,6 +1,5 @@
 -- Public vocabulary: the words of public clauses, for callers and readers.
 pub mod Errors
-pub mod Faults
 pub mod Telling
 pub mod Meters
 pub mod Lists

@@ -1,4 +1,4 @@
--- Public vocabulary: the command `meter`: the lines that it prints, the faults of its set-up, and the meter that it makes.
+-- Public vocabulary: the command `meter`: the lines that it prints, and the image that a new meter runs.
 use Rattle.std.specs.Prelude.{ℕ, ◌==◌, if◌then◌else◌, List, [], ◌++◌, Option, None, Some, codes, decimal}
 use Rattle.std.specs.declared.net.socket_addr.SocketAddr.{SocketAddr}
 use Rattle.std.specs.Net.Text.{socket_text}
@@ -11,8 +11,6 @@ use Rattle.fw_daemon.specs.declared.event.Work.{Work}
 use Rattle.fw_daemon.specs.declared.event.Work.TheVariants as work
 use Rattle.fw_daemon.specs.declared.event.MeterEvent.{MeterEvent}
 use Rattle.fw_daemon.specs.declared.event.MeterEvent.TheVariants as event
-use Rattle.fw_faults.specs.declared.fault.Fault.{Fault}
-use Rattle.fw_faults.specs.declared.fault.Fault.TheVariants.{BadSetup, StoreFault, Device, BadFile, BadHeader, BadImage, FactoryFault, OutOfMemory}
 
 -- the address that datagrams are received at
 abbrev pub listening_line : SocketAddr → List ℕ
@@ -80,19 +78,3 @@ dropped_line dropped faults unopened untold =
 -- the image that a new meter runs if none is given
 abbrev pub default_factory : List ℕ
 default_factory = codes "abc"
-
--- those of the file that has a meter
-abbrev pub IsOfStore : Fault → Type 0
-IsOfStore StoreFault = Unit {0}
-IsOfStore Device = Unit {0}
-IsOfStore BadFile = Unit {0}
-IsOfStore BadHeader = Unit {0}
-IsOfStore BadImage = Unit {0}
-IsOfStore fault = ⊥
-
--- the faults of the set-up of a meter in a file
-abbrev pub IsOfSetup : Fault → Type 0
-IsOfSetup BadSetup = Unit {0}
-IsOfSetup FactoryFault = Unit {0}
-IsOfSetup OutOfMemory = Unit {0}
-IsOfSetup fault = IsOfStore fault

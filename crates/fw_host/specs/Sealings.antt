@@ -1,5 +1,5 @@
--- Public vocabulary: the links and the counter of a daemon whose datagrams are sealed, from its files, and the faults of these.
-use Rattle.std.specs.Prelude.{◌≡◌, ℕ, ◌++◌, List, ◌∷◌, [], All, Contains, Bool, true, false, MatchOption}
+-- Public vocabulary: the links and the counter of a daemon whose datagrams are sealed, from its files.
+use Rattle.std.specs.Prelude.{◌≡◌, ℕ, ◌++◌, List, ◌∷◌, [], All, Contains, MatchOption}
 use Rattle.std.specs.Net.Addr.{MatchIp, embedded_segments, ipv6_segments}
 use Rattle.std.specs.Net.Socket.{IsPlainSocket, socket_ip, v4_ip, v4_port}
 use Rattle.std.specs.declared.net.socket_addr.SocketAddr.{SocketAddr}
@@ -15,8 +15,6 @@ use Rattle.fw_sealport.specs.Windows.{Remembers}
 use Rattle.fw_sealport.specs.declared.links.Links.{Links}
 use Rattle.fw_sealport.specs.declared.peer.Peer.{Peer}
 use Rattle.fw_sealport.specs.declared.window.Order.{Order}
-use Rattle.fw_faults.specs.declared.fault.Fault.{Fault}
-use Rattle.fw_faults.specs.declared.fault.Fault.TheVariants.{KeysFault, KeysReadable, BadKeys, NoKey, NoCounter, CounterExists, CounterLocked, CounterFault, OutOfMemory}
 
 -- ---- links
 
@@ -89,39 +87,3 @@ LacksKey head list meter = (text : List ℕ) × (file : KeyLinks ℕ) × SpellsH
 -- every power cut leaves a counter of which nothing is reserved
 abbrev pub LeavesNewCounter : {D : Type 0} → (D → List ℕ → Type 0) → D → Type 0
 LeavesNewCounter may_leave device = (left : List ℕ) → may_leave device left → Reserves left 0
-
--- ---- the faults
-
--- of the key file of a meter
-abbrev pub IsOfMeterKeys : Fault → Type 0
-IsOfMeterKeys KeysFault = Unit {0}
-IsOfMeterKeys KeysReadable = Unit {0}
-IsOfMeterKeys (BadKeys line why) = Unit {0}
-IsOfMeterKeys OutOfMemory = Unit {0}
-IsOfMeterKeys fault = ⊥
-
--- of a head end
-abbrev pub IsOfHeadKeys : Fault → Type 0
-IsOfHeadKeys (NoKey meter) = Unit {0}
-IsOfHeadKeys fault = IsOfMeterKeys fault
-
--- of the opening of a counter that is there
-abbrev pub IsOfOldCounter : Fault → Type 0
-IsOfOldCounter NoCounter = Unit {0}
-IsOfOldCounter CounterLocked = Unit {0}
-IsOfOldCounter CounterFault = Unit {0}
-IsOfOldCounter OutOfMemory = Unit {0}
-IsOfOldCounter fault = ⊥
-
--- of the making of a new one
-abbrev pub IsOfNewCounter : Fault → Type 0
-IsOfNewCounter CounterExists = Unit {0}
-IsOfNewCounter CounterLocked = Unit {0}
-IsOfNewCounter CounterFault = Unit {0}
-IsOfNewCounter OutOfMemory = Unit {0}
-IsOfNewCounter fault = ⊥
-
--- of a counter that is to be made, or is there
-abbrev pub IsOfCounters : Bool → Fault → Type 0
-IsOfCounters true fault = IsOfNewCounter fault
-IsOfCounters false fault = IsOfOldCounter fault

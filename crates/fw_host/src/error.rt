@@ -1,30 +1,13 @@
 //! Why a file of a command isn't read, made or gone on with, and why campaigns aren't let be cancelled.
 
 ghost use Rattle.std.specs.Prelude.{◌≡◌};
-ghost use Rattle.fw_faults.specs.declared.fault.Fault.TheVariants.{BadSetup};
-ghost use Rattle.fw_host.specs.Captures.{IsOfCapture};
 ghost use Rattle.fw_host.specs.Errors.{new_book_error, new_counter_error, old_book_error, old_counter_error, reopened_error, store_error};
-ghost use Rattle.fw_host.specs.Faults.{
-  fault_of_capture,
-  fault_of_head_keys,
-  fault_of_meter_keys,
-  fault_of_new_book,
-  fault_of_new_counter,
-  fault_of_new_store,
-  fault_of_old_book,
-  fault_of_old_counter,
-  fault_of_store,
-};
-ghost use Rattle.fw_host.specs.Heads.{IsOfNewBook, IsOfOldBook};
-ghost use Rattle.fw_host.specs.Meters.{IsOfSetup, IsOfStore};
-ghost use Rattle.fw_host.specs.Sealings.{IsOfHeadKeys, IsOfMeterKeys, IsOfNewCounter, IsOfOldCounter};
 ghost use Rattle.fw_host.specs.declared.error.CancelsError.TheVariants as cancels;
 ghost use Rattle.fw_host.specs.declared.error.HeadKeysError.TheVariants as head_keys;
 ghost use Rattle.fw_host.specs.declared.error.ListError.TheVariants as list;
 ghost use Rattle.fw_host.specs.declared.error.NewStoreError.TheVariants as new_store;
 
 use fw_book::BookError;
-use fw_faults::Fault;
 use fw_image::OpenError;
 use fw_journal::JournalError;
 use fw_keys::BadLine;
@@ -73,17 +56,6 @@ impl fmt::Display for CaptureFileError {
     }
 }
 
-impl From<CaptureFileError> for Fault {
-    ghost from_gives = { λ error fault. (fault ≡ fault_of_capture error) × IsOfCapture fault };
-
-    fn from(error: CaptureFileError) -> Fault {
-        match error {
-            CaptureFileError::CaptureFault => Fault::CaptureFault,
-            CaptureFileError::ForeignCapture => Fault::ForeignCapture,
-        }
-    }
-}
-
 /// Why there is nothing that a new store is made with.
 #[derive(Clone, Copy, Debug, Error)]
 pub enum NewStoreError {
@@ -114,18 +86,6 @@ impl<T: Drop> From<AllocFailed<T>> for NewStoreError {
 
     fn from(_error: AllocFailed<T>) -> NewStoreError {
         NewStoreError::OutOfMemory
-    }
-}
-
-impl From<NewStoreError> for Fault {
-    ghost from_gives = { λ error fault. (fault ≡ fault_of_new_store error) × (IsOfSetup fault × (fault ≡ BadSetup → error ≡ new_store.BadSetup)) };
-
-    fn from(error: NewStoreError) -> Fault {
-        match error {
-            NewStoreError::BadSetup => Fault::BadSetup,
-            NewStoreError::FactoryFault => Fault::FactoryFault,
-            NewStoreError::OutOfMemory => Fault::OutOfMemory,
-        }
     }
 }
 
@@ -161,20 +121,6 @@ impl From<OpenError> for StoreFileError {
             OpenError::Fault => StoreFileError::Device,
             OpenError::BadHeader => StoreFileError::BadHeader,
             OpenError::BadImage => StoreFileError::BadImage,
-        }
-    }
-}
-
-impl From<StoreFileError> for Fault {
-    ghost from_gives = { λ error fault. (fault ≡ fault_of_store error) × IsOfStore fault };
-
-    fn from(error: StoreFileError) -> Fault {
-        match error {
-            StoreFileError::StoreFault => Fault::StoreFault,
-            StoreFileError::Device => Fault::Device,
-            StoreFileError::BadFile => Fault::BadFile,
-            StoreFileError::BadHeader => Fault::BadHeader,
-            StoreFileError::BadImage => Fault::BadImage,
         }
     }
 }
@@ -238,22 +184,6 @@ impl From<fw_kept::OpenError> for BookFileError {
     }
 }
 
-impl From<BookFileError> for Fault {
-    ghost from_gives = { λ error fault. (fault ≡ fault_of_old_book error) × IsOfOldBook fault };
-
-    fn from(error: BookFileError) -> Fault {
-        match error {
-            BookFileError::NoBook => Fault::NoBook,
-            BookFileError::Locked => Fault::Locked,
-            BookFileError::BookFault => Fault::BookFault,
-            BookFileError::BadBook(offset) => Fault::BadBook(offset),
-            BookFileError::BadRecord(index) => Fault::BadRecord(index),
-            BookFileError::ForeignHead => Fault::ForeignHead,
-            BookFileError::OutOfMemory => Fault::OutOfMemory,
-        }
-    }
-}
-
 /// Why no file of a new book is made.
 #[derive(Clone, Copy, Debug, Error)]
 pub enum NewBookError {
@@ -285,19 +215,6 @@ impl From<JournalError> for NewBookError {
             | JournalError::TooLong
             | JournalError::Full
             | JournalError::BookFault => NewBookError::BookFault,
-        }
-    }
-}
-
-impl From<NewBookError> for Fault {
-    ghost from_gives = { λ error fault. (fault ≡ fault_of_new_book error) × IsOfNewBook fault };
-
-    fn from(error: NewBookError) -> Fault {
-        match error {
-            NewBookError::BookExists => Fault::BookExists,
-            NewBookError::Locked => Fault::Locked,
-            NewBookError::BookFault => Fault::BookFault,
-            NewBookError::OutOfMemory => Fault::OutOfMemory,
         }
     }
 }
@@ -337,19 +254,6 @@ impl From<JournalError> for CounterFileError {
     }
 }
 
-impl From<CounterFileError> for Fault {
-    ghost from_gives = { λ error fault. (fault ≡ fault_of_old_counter error) × IsOfOldCounter fault };
-
-    fn from(error: CounterFileError) -> Fault {
-        match error {
-            CounterFileError::NoCounter => Fault::NoCounter,
-            CounterFileError::CounterLocked => Fault::CounterLocked,
-            CounterFileError::CounterFault => Fault::CounterFault,
-            CounterFileError::OutOfMemory => Fault::OutOfMemory,
-        }
-    }
-}
-
 /// Why no file of a new counter is made.
 #[derive(Clone, Copy, Debug, Error)]
 pub enum NewCounterError {
@@ -385,19 +289,6 @@ impl From<JournalError> for NewCounterError {
     }
 }
 
-impl From<NewCounterError> for Fault {
-    ghost from_gives = { λ error fault. (fault ≡ fault_of_new_counter error) × IsOfNewCounter fault };
-
-    fn from(error: NewCounterError) -> Fault {
-        match error {
-            NewCounterError::CounterExists => Fault::CounterExists,
-            NewCounterError::CounterLocked => Fault::CounterLocked,
-            NewCounterError::CounterFault => Fault::CounterFault,
-            NewCounterError::OutOfMemory => Fault::OutOfMemory,
-        }
-    }
-}
-
 /// Why a meter has no links of a key file. It prints its name, and of bad keys the number of the line and what is wrong with it.
 #[derive(Clone, Copy, Debug, Error)]
 pub enum MeterKeysError {
@@ -416,19 +307,6 @@ impl fmt::Display for MeterKeysError {
         match self {
             MeterKeysError::BadKeys(number, cause) => write!(f, "BadKeys {number} {cause}"),
             other => fmt::Debug::fmt(other, f),
-        }
-    }
-}
-
-impl From<MeterKeysError> for Fault {
-    ghost from_gives = { λ error fault. (fault ≡ fault_of_meter_keys error) × IsOfMeterKeys fault };
-
-    fn from(error: MeterKeysError) -> Fault {
-        match error {
-            MeterKeysError::KeysFault => Fault::KeysFault,
-            MeterKeysError::KeysReadable => Fault::KeysReadable,
-            MeterKeysError::BadKeys(number, cause) => Fault::BadKeys(number, cause),
-            MeterKeysError::OutOfMemory => Fault::OutOfMemory,
         }
     }
 }
@@ -464,20 +342,6 @@ impl From<AllocError> for HeadKeysError {
 
     fn from(_error: AllocError) -> HeadKeysError {
         HeadKeysError::OutOfMemory
-    }
-}
-
-impl From<HeadKeysError> for Fault {
-    ghost from_gives = { λ error fault. (fault ≡ fault_of_head_keys error) × IsOfHeadKeys fault };
-
-    fn from(error: HeadKeysError) -> Fault {
-        match error {
-            HeadKeysError::KeysFault => Fault::KeysFault,
-            HeadKeysError::KeysReadable => Fault::KeysReadable,
-            HeadKeysError::BadKeys(number, cause) => Fault::BadKeys(number, cause),
-            HeadKeysError::NoKey(meter) => Fault::NoKey(meter),
-            HeadKeysError::OutOfMemory => Fault::OutOfMemory,
-        }
     }
 }
 
