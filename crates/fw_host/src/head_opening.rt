@@ -1,6 +1,6 @@
 //! The campaigns that the command `head` cancels and opens in its book: what the book says of them.
 
-ghost use Rattle.std.specs.Prelude.{◌≡◌, ◌≤◌, All, IfErr, IfOk, IsErrOf, OnOk};
+ghost use Rattle.std.specs.Prelude.{◌≡◌, All, IfErr, IfOk, IsErrOf, OnOk};
 ghost use Rattle.fw_plan.specs.Openings.{AreParts, lacking};
 ghost use Rattle.fw_plan.specs.Ranges.{serials_of};
 ghost use Rattle.fw_host.specs.Openings.{

@@ -54,9 +54,7 @@ pub use event_file::EventFile;
 pub use head_book::{BookOptions, open_book};
 pub use head_lines::untaken_line;
 pub use head_new_book::{check_absent, make_book};
-pub use head_opening::{
-    Opening, cancels_of, check_cancel, check_parts, listed_meters, parts_of,
-};
+pub use head_opening::{Opening, cancels_of, check_cancel, check_parts, listed_meters, parts_of};
 pub use head_port::UdpHeadPort;
 pub use head_progress::{HeadProgress, ProgressOutput, Unwritten};
 pub use lines::Lines;
