@@ -122,10 +122,7 @@ pub fn run_meter<R: Files<File = File> + Clock + Eprint + Net + Wait, W: Write>(
 {
     match options.count {
         Some(count) if options.sealing.is_none() => serve_fleet(rt, alloc, writer, &options, count),
-        _ => match serve_one(rt, alloc, writer, &options) {
-            Ok(()) => Ok(()),
-            Err(failure) => Err(failure),
-        },
+        _ => serve_one(rt, alloc, writer, &options),
     }
 }
 
