@@ -1,5 +1,5 @@
 -- What a fault is about: an address, a file or one beside it, a capacity, or the serial number of a campaign.
-use Rattle.std.specs.Prelude.{◌≡◌, ℕ, List, Option, None, Some}
+use Rattle.std.specs.Prelude.{◌≡◌, ℕ, Option, None, Some}
 use Rattle.std.specs.Option.{option_map, option_map_or}
 use Rattle.fw_disk.specs.declared.reason.Because.{Because}
 use Rattle.fw_disk.specs.declared.reason.Reason.{Reason}

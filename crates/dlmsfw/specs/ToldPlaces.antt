@@ -6,7 +6,6 @@ use Rattle.fw_cli.specs.declared.told_files.ToldFile.TheVariants as told
 use Rattle.fw_cli.specs.declared.told_files.Untold.{Untold}
 use Rattle.fw_disk.specs.declared.name.Name.{Name}
 use Rattle.dlmsfw.specs.Texts.{file_text}
-use Rattle.dlmsfw.specs.declared.cause.NamedFile.{NamedFile}
 use Rattle.dlmsfw.specs.declared.options.HeadShown.{HeadShown}
 use Rattle.dlmsfw.specs.declared.told_files.ToldPlace.{ToldPlace}
 use Rattle.dlmsfw.specs.declared.told_files.ToldPlace.TheVariants as place

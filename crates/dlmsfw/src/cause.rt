@@ -3,7 +3,6 @@
 ghost use Rattle.std.specs.Prelude.{◌≡◌, ◌≢◌, MatchBool, None, Some};
 ghost use Rattle.std.specs.Option.{option_map};
 ghost use Rattle.dlmsfw.specs.Places.{TellsReason, TellsBookReason, answer_place_of, book_place_of, book_status, name_in, place_of, store_place_of};
-ghost use Rattle.dlmsfw.specs.Refusals.{reason_told};
 ghost use Rattle.dlmsfw.specs.Texts.{book_place_text, counter_text, file_text, place_text};
 
 use crate::refusal::Refusal;

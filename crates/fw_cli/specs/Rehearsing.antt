@@ -8,7 +8,6 @@ use Rattle.fw_world.specs.Runs.{events_of}
 use Rattle.fw_world.specs.State.{State}
 use Rattle.fw_world.specs.Step.{Event}
 use Rattle.fw_accounts.specs.Accounts.{AreNumbered, IsAccounted}
-use Rattle.fw_workers.specs.Deals.{AreWorkers}
 use Rattle.fw_workers.specs.Refusals.{IsBarred}
 use Rattle.fw_air.specs.Events.{Receipt}
 use Rattle.fw_cli.specs.declared.live.LiveOptions.{LiveOptions}

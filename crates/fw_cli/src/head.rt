@@ -16,7 +16,7 @@ ghost use Rattle.fw_host.specs.Telling.{Told};
 ghost use Rattle.fw_host.specs.declared.sealing.SealingOptions.{SealingOptions as Sealed};
 ghost use Rattle.fw_book.specs.Changes.{cancel_refusal, empty_book};
 ghost use Rattle.fw_cli.specs.Beginning.{AreChanges, HasLedOut, HasLedTo, IsDaemonOf, IsOpeningOf};
-ghost use Rattle.fw_cli.specs.HeadErrors.{ComesBeforeLines, IsAskedFor, IsOfLeading, head_of_closing, head_of_stop};
+ghost use Rattle.fw_cli.specs.HeadErrors.{ComesBeforeLines, IsAskedFor, IsOfLeading, head_of_closing};
 ghost use Rattle.fw_cli.specs.Judging.{IsJudged};
 ghost use Rattle.fw_cli.specs.Reasons.{book_reason};
 ghost use Rattle.fw_cli.specs.Sealing.{IsHeadSealing, links_in, links_of, options_of};

@@ -3,18 +3,14 @@
 ghost use Rattle.std.specs.Prelude.{
   ◌≡◌,
   ◌≢◌,
-  ◌<◌,
   ◌⊎◌,
   ◌↔◌,
   ℕ,
-  List,
-  None,
   IsTrue,
   IfOk,
   IfErr,
   OnErr,
   IfSome,
-  is_some,
   string_bytes,
 };
 ghost use Rattle.std.specs.Io.KnownBytes.{Keeps};

@@ -1,6 +1,6 @@
 //! The file of new events.
 
-ghost use Rattle.std.specs.Prelude.{◌≡◌, [], IsTrue, IfOk};
+ghost use Rattle.std.specs.Prelude.{[], IsTrue, IfOk};
 ghost use Rattle.fw_disk.specs.declared.name.Name.TheVariants.{Main};
 ghost use Rattle.fw_disk.specs.Ours.{IsNamed};
 

@@ -17,7 +17,6 @@ ghost use Rattle.std.specs.Prelude.{
   MatchOption,
   Some,
   length,
-  option_map,
   true,
 };
 ghost use Rattle.csv.specs.Reading.{error_kind, stops_reader};

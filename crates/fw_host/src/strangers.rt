@@ -2,7 +2,7 @@
 
 ghost use Rattle.std.specs.Prelude.{◌≡◌, IfOk, IsSome, None, not};
 ghost use Rattle.fw_daemon.specs.Daemon.{one_more};
-ghost use Rattle.fw_host.specs.Strangers.{AreAddresses, AreAddressesOf, is_among, is_listed_at, is_stranger, is_strange};
+ghost use Rattle.fw_host.specs.Strangers.{AreAddresses, AreAddressesOf, is_listed_at, is_stranger, is_strange};
 
 use fw_rollout::Listed;
 use std::alloc::{AllocError, Global};

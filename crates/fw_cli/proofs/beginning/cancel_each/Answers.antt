@@ -1,4 +1,4 @@
-use Rattle.std.proofs.Common.{◌∙◌, ℕ, List, ap, refl, rules, take}
+use Rattle.std.proofs.Common.{◌∙◌, ℕ, List, ap, refl, rules}
 use Rattle.std.proofs.lemmas.List.{get_or_default, take_all}
 use Rattle.fw_kept.specs.Head.{head_of}
 use Rattle.fw_cli.specs.Cancelling.{cancelled_all}

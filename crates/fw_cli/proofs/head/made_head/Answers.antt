@@ -1,4 +1,4 @@
-use Rattle.std.proofs.Common.{◌≡◌, ◌∙◌, Option, subst}
+use Rattle.std.proofs.Common.{◌∙◌, Option, subst}
 use Rattle.std.proofs.lemmas.Result.{err_from_is_err_and}
 use Rattle.fw_host.specs.declared.sealing.SealingOptions.{SealingOptions}
 use Rattle.fw_cli.specs.Faults.{MakesCounter}

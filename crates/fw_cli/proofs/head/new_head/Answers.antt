@@ -1,4 +1,4 @@
-use Rattle.std.proofs.Common.{◌≡◌, List, subst}
+use Rattle.std.proofs.Common.{List, subst}
 use Rattle.std.proofs.lemmas.Result.{err_from_is_err_and}
 use Rattle.fw_plan.specs.declared.ranges.SerialRange.{SerialRange}
 use Rattle.fw_cli.specs.HeadErrors.{IsAskedFor, IsOfJudging}

@@ -1,4 +1,4 @@
-use Rattle.std.proofs.Common.{◌≡◌, ◌∙◌, List, Option, ap, subst}
+use Rattle.std.proofs.Common.{◌∙◌, List, Option, ap, subst}
 use Rattle.std.proofs.lemmas.Result.{err_from_is_err_and}
 use Rattle.fw_head.specs.Head.{Head}
 use Rattle.fw_kept.specs.Head.{book_of}

@@ -1,4 +1,3 @@
-use Rattle.std.proofs.Common.{◌≡◌}
 use Rattle.std.proofs.lemmas.Result.{err_from_is_err_and}
 use Rattle.fw_cli.specs.HeadErrors.{IsAskedFor}
 use Rattle.fw_cli.specs.declared.head_error.HeadFailure.{HeadFailure}

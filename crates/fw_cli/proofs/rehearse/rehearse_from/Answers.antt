@@ -1,9 +1,8 @@
-use Rattle.std.proofs.Common.{◌≡◌, ◌∙◌, ap, Err, refl}
+use Rattle.std.proofs.Common.{◌≡◌, ◌∙◌, ap, Err}
 use Rattle.std.proofs.lemmas.Result.{err_from_is_err_and}
-use Rattle.fw_faults.specs.declared.fault.Fault.TheVariants as fault
 use Rattle.fw_cli.specs.Scripts.{MakesNoneFor, fault_of_rehearsal}
 use Rattle.fw_cli.proofs.Rehearsed.{uncaptured, untold, writes}
-use Rattle.fw_cli.proofs.Scripted.{capture_memory, ends_as, of_capture_error, of_script_error, of_workers, script_line, script_memory, unread, unwritten}
+use Rattle.fw_cli.proofs.Scripted.{capture_memory, ends_as, of_capture_error, of_script_error, of_workers, script_line, script_memory, unread}
 use Rattle.fw_cli.proofs.rehearse.rehearse_from.Goals as goal
 
 pub returns-in-Ok-clause-ok : goal.returns-in-Ok-clause-ok

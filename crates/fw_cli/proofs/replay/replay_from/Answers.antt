@@ -1,10 +1,9 @@
-use Rattle.std.proofs.Common.{◌≡◌, ◌∙◌, ap, Err, refl}
+use Rattle.std.proofs.Common.{◌≡◌, ◌∙◌, ap, Err}
 use Rattle.std.proofs.lemmas.Result.{err_from_is_err_and}
-use Rattle.fw_faults.specs.declared.fault.Fault.TheVariants as fault
 use Rattle.fw_cli.specs.Replaying.{MakesNone}
 use Rattle.fw_cli.specs.Scripts.{fault_of_replay}
 use Rattle.fw_cli.proofs.Replayed.{makes}
-use Rattle.fw_cli.proofs.Scripted.{capture_memory, ends_as, input_memory, of_capture_error, of_input_error, uncaptured, unread_input, unreplayed, unwritten}
+use Rattle.fw_cli.proofs.Scripted.{capture_memory, ends_as, input_memory, of_capture_error, of_input_error, uncaptured, unread_input, unreplayed}
 use Rattle.fw_cli.proofs.replay.replay_from.Goals as goal
 
 pub returns-in_err-input-clause-ends : goal.returns-in_err-input-clause-ends

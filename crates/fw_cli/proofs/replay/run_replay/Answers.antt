@@ -1,4 +1,4 @@
-use Rattle.std.proofs.Common.{◌≡◌, ◌∙◌, ap, Err, inl, inr, subst, sym}
+use Rattle.std.proofs.Common.{◌∙◌, ap, Err, inl, inr, subst, sym}
 use Rattle.std.proofs.KnownBytes.{Keeps-refl}
 use Rattle.std.proofs.lemmas.Result.{IfErr-weaker, err_from_is_err_and}
 use Rattle.fw_cli.specs.Replaying.{HasGoodFates, MakesNone}

@@ -1,4 +1,4 @@
-use Rattle.std.proofs.Common.{arith, refl, ◌∙◌}
+use Rattle.std.proofs.Common.{arith, ◌∙◌}
 use Rattle.std.proofs.lemmas.List.{take_all}
 use Rattle.fw_cli.proofs.Surveyed.{added_next}
 use Rattle.fw_survey.specs.Survey.{rows_of}

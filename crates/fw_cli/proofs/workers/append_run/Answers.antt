@@ -1,9 +1,9 @@
-use Rattle.std.proofs.Common.{◌≡◌, ◌∙◌, List, ap, sym, subst}
+use Rattle.std.proofs.Common.{List, ap, sym, subst}
 use Rattle.std.proofs.lemmas.Result.{IfOk-weaker}
 use Rattle.fw_air.specs.Events.{Receipt}
 use Rattle.fw_world.specs.Runs.{events_of}
 use Rattle.fw_world.specs.Step.{Event}
-use Rattle.fw_accounts.specs.Accounts.{AreNumbered, IsRecordOf}
+use Rattle.fw_accounts.specs.Accounts.{IsRecordOf}
 use Rattle.fw_report.specs.Trace.{TellsTrace}
 use Rattle.fw_cli.proofs.workers.append_run.Goals as goal
 

@@ -1,4 +1,4 @@
-use Rattle.std.proofs.Common.{◌≡◌, ◌∙◌, ap, Bool, sym, subst, string_bytes}
+use Rattle.std.proofs.Common.{◌∙◌, ap, Bool, sym, subst, string_bytes}
 use Rattle.fw_world.specs.Runs.{events_of}
 use Rattle.fw_cli.specs.Rehearsing.{TellsOfWorkers, TracesWorkers}
 use Rattle.fw_cli.proofs.Rehearsed.{with_trace, without_trace}

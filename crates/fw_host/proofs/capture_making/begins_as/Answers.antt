@@ -1,4 +1,4 @@
-use Rattle.std.proofs.Common.{rules, ◌≡◌, true, IsTrue, length, min, take, sym, ◌∙◌}
+use Rattle.std.proofs.Common.{rules, ◌≡◌, true, length, min, take, sym, ◌∙◌}
 use Rattle.std.proofs.lemmas.Bool.Decides.{Decides-eqb}
 use Rattle.std.proofs.lemmas.Slice.Eq.{slice_eq-Decides}
 use Rattle.fw_host.proofs.Makings.{front_part, form_part}

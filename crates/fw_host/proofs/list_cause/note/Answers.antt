@@ -1,4 +1,4 @@
-use Rattle.fw_host.proofs.Causes.{of_fields, of_two}
+use Rattle.fw_host.proofs.Causes.{of_fields}
 use Rattle.fw_host.proofs.list_cause.note.Goals as goal
 
 pub returns-in_default-clause-why : goal.returns-in_default-clause-why

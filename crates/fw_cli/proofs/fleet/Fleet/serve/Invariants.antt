@@ -1,4 +1,3 @@
-use Rattle.std.proofs.Common.{◌≡◌}
 use Rattle.fw_cli.specs.Fleets.{AreWatched, daemons_of}
 use Rattle.fw_cli.proofs.fleet.Fleet.serve.Given as goal
 

@@ -1,4 +1,4 @@
-use Rattle.std.proofs.Common.{◌∙◌, Err, ap, refl}
+use Rattle.std.proofs.Common.{◌∙◌, Err, ap}
 use Rattle.std.proofs.lemmas.Result.{err_from_is_err_and}
 use Rattle.fw_cli.specs.MeterErrors.{IsOfSetup}
 use Rattle.fw_cli.specs.declared.meter_error.MeterFailure.{MeterFailure}

@@ -1,7 +1,6 @@
 use Rattle.std.proofs.Common.{List, ap, subst, ◌∙◌}
 use Rattle.fw_book.specs.Contents.{Contents}
 use Rattle.fw_head.specs.Head.{Head}
-use Rattle.fw_kept.specs.Head.{book_of}
 use Rattle.fw_plan.specs.Waves.{IsGate, wave_rows}
 use Rattle.fw_plan.specs.declared.gate.WaveRow.{WaveRow}
 use Rattle.fw_plan.specs.declared.rows.WaveMeter.{WaveMeter}
