@@ -10,7 +10,7 @@ use std::net::SocketAddr;
 use std::rt::Clock;
 
 impl<'a, C: Clock, S: SyncedSink + Drop, P: PortBelow> Port<NoReport> for CapturePort<'a, C, S, P> {
-    ghost use Rattle.std.specs.Prelude.{false, [], ⊤};
+    ghost use Rattle.std.specs.Prelude.{◌≡◌, false, [], ⊤};
 
     ghost honest = { λ _. false };
 
@@ -30,7 +30,9 @@ impl<'a, C: Clock, S: SyncedSink + Drop, P: PortBelow> Port<NoReport> for Captur
         self.count_of_faults()
     }
 
-    fn unopened(&self) -> u64 {
+    fn unopened(&self) -> u64
+        ensures none { result ≡ 0 }
+    {
         0
     }
 
@@ -54,7 +56,7 @@ impl<'a, C: Clock, S: SyncedSink + Drop, P: PortBelow> WirePort for CapturePort<
 impl<'a, C: Clock, S: SyncedSink + Drop, P: PortBelow> DatagramPort for CapturePort<'a, C, S, P> {
     ghost use Rattle.std.specs.Prelude.{◌≡◌, false};
     ghost use Rattle.fw_capture.specs.View.{datagram, endpoint_of};
-    ghost use Rattle.fw_host.specs.Captures.{CapturesArrival, CapturesNoted};
+    ghost use Rattle.fw_host.specs.Captures.{CapturesArrival, CapturesNoted, unserved_told};
     ghost use Rattle.fw_host.specs.Closings.{closed_by_record};
 
     ghost receives = { λ old patience came buffer new. CapturesArrival S.takes old.recorder.strangers.now old.recorder.has_turns
@@ -77,7 +79,10 @@ impl<'a, C: Clock, S: SyncedSink + Drop, P: PortBelow> DatagramPort for CaptureP
         self.send_recorded(to, bytes);
     }
 
-    fn note_unserved(&mut self) {
+    fn note_unserved(&mut self)
+        ensures recorded { self.new.recorder.failed ≡ false → CapturesNoted S.takes self.old.recorder.strangers.now.count
+            self.old.recorder.sink self.new.recorder.sink (unserved_told self.old.recorder.at) }
+    {
         self.note_refused_memory();
     }
 

@@ -47,10 +47,14 @@ impl<'a, 'w, C: Clock + Eprint, W: Write, P: DatagramPort + Drop> Port<Ended>
 
 impl<'a, 'w, C: Clock + Eprint, W: Write, P: DatagramPort + Drop> HeadPort
     for UdpHeadPort<'a, 'w, C, W, P> {
+    ghost use Rattle.std.specs.Prelude.{◌≡◌};
+
     ghost time = { λ p. p.clock.time };
 
     /// The microseconds since the port was made, as it read them last: after what it received last, and after each line.
-    fn now(&self) -> u64 {
+    fn now(&self) -> u64
+        ensures clock { result ≡ self.now.clock.time }
+    {
         self.time()
     }
 
