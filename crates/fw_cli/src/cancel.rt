@@ -168,7 +168,7 @@ impl CancelFailure {
 }
 
 impl From<AllocError> for CancelFailure {
-    ghost from_gives = { λ _ failure. (failure.error ≡ OutOfMemory) × (failure.serial ≡ None) };
+    ghost from_gives = { λ _ failure. (failure.error ≡ OutOfMemory) × (failure.serial ≡ None) × (failure.reason ≡ None) };
 
     fn from(_error: AllocError) -> CancelFailure {
         CancelFailure {

@@ -1,7 +1,8 @@
 //! The command `keys`: new keys for the links of a head end with the meters of a list, in files for both ends.
 
-ghost use Rattle.std.specs.Prelude.{◌≡◌, ◌≢◌, ◌++◌, IfErr, IfOk, IsTrue, OnOk, Some, is_some, string_bytes};
+ghost use Rattle.std.specs.Prelude.{◌≡◌, ◌≢◌, ◌++◌, IfErr, IfOk, IsTrue, None, OnOk, Some, is_some, string_bytes};
 ghost use Rattle.std.specs.Io.KnownBytes.{Keeps};
+ghost use Rattle.fw_disk.specs.declared.name.Name.TheVariants.{Main};
 ghost use Rattle.fw_key_files.specs.Making.{owners_of};
 ghost use Rattle.fw_key_files.specs.Refusals.{IsOfMaking};
 ghost use Rattle.fw_cli.specs.Keying.{IsAsked, TellsKeys, fault_of_making, lines_of, made_line, made_lines, numbers_of};
@@ -112,7 +113,7 @@ pub struct KeysFailure {
 }
 
 impl From<KeyMakingError> for KeysFailure {
-    ghost from_gives = { λ error failure. failure.error ≡ error };
+    ghost from_gives = { λ error failure. (failure.error ≡ error) × (failure.owner ≡ None) × (failure.reason ≡ None) };
 
     fn from(error: KeyMakingError) -> KeysFailure {
         KeysFailure {
@@ -124,7 +125,7 @@ impl From<KeyMakingError> for KeysFailure {
 }
 
 impl From<AllocError> for KeysFailure {
-    ghost from_gives = { λ _ failure. failure.error ≡ OutOfMemory };
+    ghost from_gives = { λ _ failure. (failure.error ≡ OutOfMemory) × (failure.owner ≡ None) × (failure.reason ≡ None) };
 
     fn from(_error: AllocError) -> KeysFailure {
         KeysFailure::from(KeyMakingError::OutOfMemory)
@@ -132,7 +133,8 @@ impl From<AllocError> for KeysFailure {
 }
 
 impl From<NotMade> for KeysFailure {
-    ghost from_gives = { λ not_made failure. (failure.error ≡ KeysFault) × (failure.owner ≡ Some not_made.owner) };
+    ghost from_gives = { λ not_made failure. (failure.error ≡ KeysFault) × (failure.owner ≡ Some not_made.owner)
+        × (failure.reason ≡ Some (record { name = Main; cause = not_made.cause })) };
 
     fn from(not_made: NotMade) -> KeysFailure {
         KeysFailure {
