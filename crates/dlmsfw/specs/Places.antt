@@ -19,7 +19,7 @@ use Rattle.dlmsfw.specs.declared.cause.NamedFile.{NamedFile}
 use Rattle.dlmsfw.specs.declared.cause.Place.{Place}
 use Rattle.dlmsfw.specs.declared.cause.Place.TheVariants.{Listen, ListenOf, Store, FactoryFile, Capacity, Capture, Keys, Counter}
 use Rattle.dlmsfw.specs.declared.refusal.Refusal.{Refusal}
-use Rattle.dlmsfw.specs.Refusals.{input_told, reason_told}
+use Rattle.dlmsfw.specs.Refusals.{book_told, input_told, reason_told}
 
 -- the name of a file that a reason is about
 abbrev pub name_in : Option Reason → Name
@@ -140,9 +140,9 @@ TellsReason (Some (Keys file)) reason told = told ≡ reason_told reason
 TellsReason (Some (Counter file)) reason told = told ≡ reason_told reason
 TellsReason place reason told = Unit {0}
 
--- Of a threshold it is what the book shows.
+-- Of a book it is that reason, and without one what the book shows. Of a threshold it is what the book shows.
 abbrev pub TellsBookReason : Option BookPlace → Option Reason → Option InputCause → Option Refusal → Type 0
-TellsBookReason (Some (Book file)) reason input told = told ≡ reason_told reason
+TellsBookReason (Some (Book file)) reason input told = told ≡ book_told reason input
 TellsBookReason (Some (HeadCapture file)) reason input told = told ≡ reason_told reason
 TellsBookReason (Some (HeadKeys file)) reason input told = told ≡ reason_told reason
 TellsBookReason (Some (HeadCounter file)) reason input told = told ≡ reason_told reason

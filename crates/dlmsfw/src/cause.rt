@@ -520,7 +520,8 @@ pub(crate) fn book_status(fault: Fault) -> u8
 }
 
 /// Why what the fault of a head end is about is refused. Of a book, a capture, keys or counters it is the reason that came with the fault.
-/// Of an address, or of a file that is read, it is why the system refuses that now, if it does. Else it is what the list or the book shows.
+/// Of an address, or of a file that is read, it is why the system refuses that now, if it does. Else, and of a book without such a reason,
+/// it is what the list or the book shows.
 pub(crate) fn book_refusal_of(
     rt: &(impl Net + Files),
     because: &Because<Fault>,
@@ -530,7 +531,7 @@ pub(crate) fn book_refusal_of(
     ensures { TellsBookReason place.entry because.now.reason input result }
 {
     match (because.error, place?) {
-        (_, BookPlace::Book(_)) => refusal::of_reason(because.reason),
+        (_, BookPlace::Book(_)) => refusal::of_book(because.reason, input),
         (_, BookPlace::HeadCapture(_)) => refusal::of_reason(because.reason),
         (_, BookPlace::HeadKeys(_)) => refusal::of_reason(because.reason),
         (_, BookPlace::HeadCounter(_)) => refusal::of_reason(because.reason),
