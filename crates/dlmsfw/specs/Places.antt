@@ -1,6 +1,7 @@
 -- What a fault is about: an address, a file or one beside it, a capacity, or the serial number of a campaign.
 use Rattle.std.specs.Prelude.{◌≡◌, ℕ, List, Option, None, Some}
 use Rattle.std.specs.Option.{option_map, option_map_or}
+use Rattle.fw_book.specs.declared.error.BookError.TheVariants as refused
 use Rattle.fw_disk.specs.declared.reason.Because.{Because}
 use Rattle.fw_disk.specs.declared.reason.Reason.{Reason}
 use Rattle.fw_disk.specs.declared.name.Name.{Name}
@@ -108,6 +109,8 @@ book_place_in ImageFault name places = option_map Image places.image
 book_place_in EmptyImage name places = option_map Image places.image
 book_place_in ImageTooLong name places = option_map Image places.image
 book_place_in BadSetup name places = option_map Open places.opened
+book_place_in (OpenRefused refused.EmptyImage) name places = option_map Image places.image
+book_place_in (OpenRefused refused.ImageTooLong) name places = option_map Image places.image
 book_place_in (OpenRefused refusal) name places = option_map Open places.opened
 book_place_in (CancelRefused refusal) name places = cancelled_place (option_map Cancel places.cancel) (option_map Campaign places.campaign)
 book_place_in (TooManyFailed failed) name places = option_map Threshold places.max_failed

@@ -8,6 +8,7 @@ ghost use Rattle.dlmsfw.specs.Texts.{book_place_text, counter_text, file_text, p
 
 use crate::refusal::Refusal;
 use crate::{FAULT, TOO_MANY_FAILED, refusal};
+use fw_book::BookError;
 use fw_cli::{
     CancelOptions, GiveUpOptions, HeadOptions, InputCause, MeterError, MeterFailure, MeterOptions,
     StatusOptions, SurveyOptions,
@@ -480,7 +481,10 @@ pub(crate) fn book_place_of<'a>(
         })),
         Fault::Socket => Some(BookPlace::HeadListen(places.listen?)),
         Fault::ListFault | Fault::BadList(_) => Some(BookPlace::Meters(places.meters?)),
-        Fault::ImageFault | Fault::EmptyImage | Fault::ImageTooLong => {
+        Fault::ImageFault
+        | Fault::EmptyImage
+        | Fault::ImageTooLong
+        | Fault::OpenRefused(BookError::EmptyImage | BookError::ImageTooLong) => {
             Some(BookPlace::Image(places.image?))
         }
         Fault::BadSetup | Fault::OpenRefused(_) => Some(BookPlace::Open(places.opened?)),
