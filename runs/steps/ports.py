@@ -205,14 +205,20 @@ def the_flight_is_kept(place):
         wants(least <= asked <= most, f"with a flight of {flight} it asks {asked} of 60 meters at once")
 
 
-# To be seen: a socket that is closed at fewer faults, or at none.
+# To be seen: a socket that is closed at fewer faults, or at none; a head end that doesn't count its own.
 def a_socket_may_fail(place):
-    """A meter whose socket fails 999 times in a row goes on. After 1,000 times it ends."""
+    """A meter whose socket fails 999 times in a row goes on. After 1,000 times it ends. A head end tells how often its own failed."""
     with Meter(place.folder / "few.fw", env=place.preloaded("faulty", FAULTS=999)).killed() as meter:
         got = Head().ask(meter, GET_STATUS)
         wants(got == STATUS % 0, f"after 999 faults it answers {got}")
     said = place.run("meter", "--listen", f"{HOST}:0", "--store", "many.fw", env=place.preloaded("faulty", FAULTS=1000))
     wants((said[0], said[2]) == (1, ["dlmsfw: Socket", f"--listen {HOST}:0"]), f"after 1,000 faults it ends with {said}")
+    with bound() as silent:
+        listed(place.folder, [silent.getsockname()])
+        words = [*opening(place.folder), *PATIENT, "--every", "1"]
+        with HeadEnd(place.folder, *words, env=place.preloaded("faulty", FAULTS=3)).running() as head:
+            line = head.process.stderr.readline()
+    wants(line.endswith(", 3 faults\n"), f"after 3 faults a head end tells {line}")
 
 
 # ---- the wires of `live`
