@@ -271,6 +271,15 @@ def wires_are_bound_to_this_machine(place):
     wants([it[:8] for it in found] == 4 * [want], f"the sockets are bound to {[it.hex() for it in found]}")
 
 
+# To be seen: a run without open files for its wires that doesn't say so.
+def wires_want_open_files(place):
+    """Where a process may have fewer open files than its links take, `live` says why, and how many it may have."""
+    words = ["sh", "-c", 'ulimit -n 6 && exec "$@"', "", place.program, "live", "--rounds", "1", "--workers", "1"]
+    made = subprocess.run(words, input=SCRIPT.format("616263"), capture_output=True, text=True, timeout=PATIENCE, check=False)
+    why = "too many open files: each link takes two sockets; ulimit -n prints how many open files a process may have"
+    wants((made.returncode, made.stdout, made.stderr.splitlines()) == (1, "", ["dlmsfw: Socket", why]), f"it ends with {made}")
+
+
 # To be seen: workers that make four passes, or any fewer than a window needs; passes that end with a wire that brought something.
 def slow_wires_are_waited_for(place):
     """If each wire brings one datagram a pass, a window of 15 blocks takes 17 passes of its round, and the campaign its nine rounds."""
@@ -617,6 +626,7 @@ STEPS = [
     a_socket_may_fail,
     wires_stay_on_this_machine,
     wires_are_bound_to_this_machine,
+    wires_want_open_files,
     slow_wires_are_waited_for,
     wires_send_once,
     records_come_first,

@@ -4,7 +4,7 @@ ghost use Rattle.std.specs.Prelude.{◌≡◌, ◌≢◌, MatchBool, None, Some}
 ghost use Rattle.std.specs.Option.{option_map};
 ghost use Rattle.dlmsfw.specs.Places.{TellsReason, TellsBookReason, answer_place_of, book_place_of, book_status, name_in, place_of, store_place_of};
 ghost use Rattle.dlmsfw.specs.Refusals.{reason_told};
-ghost use Rattle.dlmsfw.specs.Texts.{book_place_text, counter_text, file_text, place_text};
+ghost use Rattle.dlmsfw.specs.Texts.{book_place_text, cause_text, counter_text, file_text, place_text};
 
 use crate::refusal::Refusal;
 use crate::{FAULT, TOO_MANY_FAILED, refusal};
@@ -31,15 +31,17 @@ pub(crate) enum Cause {
 }
 
 impl fmt::Display for Cause {
+    ghost output = { λ cause. Some (cause_text cause) };
+
     fn fmt<W: fmt::Write>(&self, f: &mut fmt::Formatter<W>) -> fmt::Result {
-        f.write_str(match self {
-            Cause::TooManySockets => {
-                "too many open files: each link takes two sockets; ulimit -n prints how many open files a process may have"
-            }
-            Cause::NoLoopback => {
-                "no socket can be bound on 127.0.0.1: this system may have no loopback address, or the user no right to it"
-            }
-        })
+        match self {
+            Cause::TooManySockets => f.write_str(
+                "too many open files: each link takes two sockets; ulimit -n prints how many open files a process may have",
+            ),
+            Cause::NoLoopback => f.write_str(
+                "no socket can be bound on 127.0.0.1: this system may have no loopback address, or the user no right to it",
+            ),
+        }
     }
 }
 
