@@ -215,8 +215,8 @@ Exit status:
        ForeignHead     FILE is the book of another head end than that of --head
        Full            FILE has no room for more
        NoMeters        --open: LIST has no meter
-       EmptyImage      --open: the image has no byte
-       ImageTooLong    --open: the image has more than 16777216 bytes
+       EmptyImage      --image: the image has no byte
+       ImageTooLong    --image: the image has more than 16777216 bytes
        MeterBusy       --open: a meter of LIST is live in another campaign
        NoSuchCampaign  --cancel: the book has no campaign of a serial number
                        that is given
