@@ -474,8 +474,11 @@ fn cancel<'a, R: AllocGlobal + Files<File = File> + Print + Eprint>(
                 reason: failure.reason,
             };
             let input = book_cause(rt, rt.alloc(), options.book, options.head, because.error);
-            let places = BookPlaces::of_cancel(options, failure.serial);
-            Err(Ending::Book(because, places, input))
+            Err(Ending::Book(
+                because,
+                BookPlaces::of_cancel(options, failure.serial),
+                input,
+            ))
         }
     }
 }
