@@ -9,7 +9,7 @@ FILES = ("FILE", "LIST", "CAPTURE", "KEYS", "BOOK", "FOLDER", "OUT")
 
 
 class Option:
-    """An option as a line of the short help has it."""
+    """An option as the short help has it."""
 
     def __init__(self, letter, name, value, text):
         forms = re.search(r" \[possible values: (.*?)\]", text)
@@ -29,15 +29,21 @@ class Help:
         parts = re.split(r"^== (.*)\n", texts, flags=re.M)
         texts = dict(zip(parts[1::2], parts[2::2]))
         listed = re.search(r"^Commands:\n(.*?)\n\n", texts["--help"], re.M | re.S)[1]
-        self.commands = dict(line.split(maxsplit=1) for line in listed.splitlines())
+        self.commands = {name: in_a_line(text) for name, text in re.findall(r"^  (\S+) +(.*(?:\n {4,}.*)*)$", listed, re.M)}
         self.own = options_of(texts["--help"])
         self.options = {it: options_of(texts[f"{it} -h"]) for it in self.commands if it != "help"}
-        self.takes_file = {it: f"\n  [{FILES[2]}]  " in texts[f"{it} -h"] for it in self.options}
+        self.takes_file = {it: f"\n  [{FILES[2]}]\n" in texts[f"{it} -h"] for it in self.options}
+
+
+def in_a_line(text):
+    """A text of the help in one line."""
+    return " ".join(text.split())
 
 
 def options_of(text):
-    """The options of a short help."""
-    return [Option(*it) for it in re.findall(r"^ +(?:-(\w), )?--([a-z-]+)(?: <(\S+)>)?  +(.*)$", text, re.M)]
+    """The options of a short help. The text of one stands behind it, or on the lines below it."""
+    found = re.findall(r"^ +(?:-(\w), )?--([a-z-]+)(?: <(\S+)>)?(?:  +|\n {10})(.*(?:\n {10}.*)*)$", text, re.M)
+    return [Option(letter, name, value, in_a_line(told)) for letter, name, value, told in found]
 
 
 def names_of(options):

@@ -89,7 +89,7 @@ def rows_are_given_up(place):
 
 
 # To be seen: a command that takes the book of a head end that runs, or of another head end; one that makes a book; a fault without its name, or its
-# cause; a campaign that isn't named.
+# cause; a campaign, or the head end whose book it is, that isn't named.
 def what_cant_be_closed_is_refused(place):
     """Each fault of the commands over a book has its name, and the option that it is about, and leaves the book as it is."""
     book = place.folder / "head.book"
@@ -106,7 +106,7 @@ def what_cant_be_closed_is_refused(place):
     # From now on an opening writes the same bytes.
     ends(place, (0, [], []), "give-up", "--meter", "2-3")
     for words in (["cancel", "--campaign", "1"], ["give-up", "--meter", "1"]):
-        refused(place, "ForeignHead", f"--book {book}", *words, head="8")
+        refused(place, "ForeignHead", f"--book {book}: it is the book of head end 7", *words, head="8")
     refused(place, "NoSuchCampaign", "--campaign 2", "cancel", "--campaign", "2")
     wants(rows_of(place.folder) == ["7,1,1,live"], "status has other rows")
 

@@ -205,17 +205,17 @@ def the_flight_is_kept(place):
         wants(least <= asked <= most, f"with a flight of {flight} it asks {asked} of 60 meters at once")
 
 
-# To be seen: a socket that is closed at fewer faults, or at none; a head end that doesn't count them.
+# To be seen: a socket that is closed at fewer faults, or at none; a head end that doesn't count its own.
 def a_socket_may_fail(place):
-    """A meter whose socket fails 999 times in a row goes on. After 1,000 times it ends. A head end tells how often its socket failed."""
+    """A meter whose socket fails 999 times in a row goes on. After 1,000 times it ends. A head end tells how often its own failed."""
     with Meter(place.folder / "few.fw", env=place.preloaded("faulty", FAULTS=999)).killed() as meter:
         got = Head().ask(meter, GET_STATUS)
         wants(got == STATUS % 0, f"after 999 faults it answers {got}")
     said = place.run("meter", "--listen", f"{HOST}:0", "--store", "many.fw", env=place.preloaded("faulty", FAULTS=1000))
     wants((said[0], said[2]) == (1, ["dlmsfw: Socket", f"--listen {HOST}:0"]), f"after 1,000 faults it ends with {said}")
-    with bound() as meter:
-        listed(place.folder, [meter.getsockname()])
-        words = [*opening(place.folder), "--resend", "200", "--every", "1"]
+    with bound() as silent:
+        listed(place.folder, [silent.getsockname()])
+        words = [*opening(place.folder), *PATIENT, "--every", "1"]
         with HeadEnd(place.folder, *words, env=place.preloaded("faulty", FAULTS=3)).running() as head:
             line = head.process.stderr.readline()
     wants(line.endswith(", 3 faults\n"), f"after 3 faults a head end tells {line}")
@@ -269,6 +269,15 @@ def wires_are_bound_to_this_machine(place):
     # AF_INET is 2. A port is picked by the system.
     want = (2).to_bytes(2, "little") + bytes(2) + bytes([127, 0, 0, 1])
     wants([it[:8] for it in found] == 4 * [want], f"the sockets are bound to {[it.hex() for it in found]}")
+
+
+# To be seen: a run without open files for its wires that doesn't say so.
+def wires_want_open_files(place):
+    """Where a process may have fewer open files than its links take, `live` says why, and how many it may have."""
+    words = ["sh", "-c", 'ulimit -n 6 && exec "$@"', "", place.program, "live", "--rounds", "1", "--workers", "1"]
+    made = subprocess.run(words, input=SCRIPT.format("616263"), capture_output=True, text=True, timeout=PATIENCE, check=False)
+    why = "too many open files: each link takes two sockets; ulimit -n prints how many open files a process may have"
+    wants((made.returncode, made.stdout, made.stderr.splitlines()) == (1, "", ["dlmsfw: Socket", why]), f"it ends with {made}")
 
 
 # To be seen: workers that make four passes, or any fewer than a window needs; passes that end with a wire that brought something.
@@ -617,6 +626,7 @@ STEPS = [
     a_socket_may_fail,
     wires_stay_on_this_machine,
     wires_are_bound_to_this_machine,
+    wires_want_open_files,
     slow_wires_are_waited_for,
     wires_send_once,
     records_come_first,

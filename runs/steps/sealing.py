@@ -203,6 +203,7 @@ def keys_and_counters_are_refused(place):
     folder, head = place.folder, free_address()
     keys, mine, list_of = head_keys(folder), meter_keys(folder, head), folder / "meters.csv"
     store, book, none = folder / "meter.fw", folder / "head.book", folder / "none"
+    captured = ["--capture", folder / "capture.pcap"]
     list_of.write_text("1,127.0.0.1:9\n")
     meter = ["meter", "--listen", f"{HOST}:0", "--store", store, "--keys"]
     led_by = ["head", "--head", 7, "--book", book, "--new", "--meters", list_of, "--listen", f"{HOST}:0", "--keys"]
@@ -221,11 +222,11 @@ def keys_and_counters_are_refused(place):
     for words, own in ((meter, mine), (led_by, keys)):
         counter = own.with_name(f"{own.name}.counter")
         counter.write_text("another program's file")
-        refused(place, "CounterExists", f"--keys {own}: {counter}: a file is there already", *words, own, "--new-counter")
+        refused(place, "CounterExists", f"--keys {own}: {counter}: a file is there already", *words, own, "--new-counter", *captured)
         refused(place, "CounterFault", f"--keys {own}: {counter}", *words, own)
         counter.unlink()
         os.symlink(none, counter)
-        refused(place, "CounterExists", f"--keys {own}: {counter}: a file is there already", *words, own, "--new-counter")
+        refused(place, "CounterExists", f"--keys {own}: {counter}: a file is there already", *words, own, "--new-counter", *captured)
         counter.unlink()
     for words in ([*meter, mine, "--count", 2], [*meter[:-1], "--new-counter"], [*led_by[:-1], "--strict"]):
         status, out, said = place.run(*words)

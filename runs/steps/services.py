@@ -197,7 +197,8 @@ def refused(place, fault, about, *words, head="7", **how):
 
 
 # To be seen: a head end that leads another one's book, or one that another process has; that opens for a meter that is busy; that takes
-# damaged bytes for a book; a fault with another name, or a status of 0; another line of a list; one that cancels before all is judged.
+# damaged bytes for a book; a fault with another name, or a status of 0; another line of a list; one that cancels before all is judged; a book
+# of another head end without that one's number.
 def a_head_end_is_refused(place):
     """Each fault of a head end whose book is there has its name, and the option that it is about, and leaves the book as it is."""
     folder, silent = place.folder, bound()
@@ -209,7 +210,7 @@ def a_head_end_is_refused(place):
         received(silent)
         refused(place, "Locked", f"--book {book}")
         refused(place, "BookExists", f"--book {book}", "--new")
-    refused(place, "ForeignHead", f"--book {book}", head="8")
+    refused(place, "ForeignHead", f"--book {book}: it is the book of head end 7", head="8")
     # Another image, another release, and a later serial number.
     busy = "meter 1 is live in campaign 1"
     refused(place, "MeterBusy", f"--open 1: {busy}", *opening(folder, b"two"))

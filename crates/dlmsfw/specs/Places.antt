@@ -1,6 +1,7 @@
 -- What a fault is about: an address, a file or one beside it, a capacity, or the serial number of a campaign.
 use Rattle.std.specs.Prelude.{◌≡◌, ℕ, Option, None, Some}
 use Rattle.std.specs.Option.{option_map, option_map_or}
+use Rattle.fw_book.specs.declared.error.BookError.TheVariants as refused
 use Rattle.fw_disk.specs.declared.reason.Because.{Because}
 use Rattle.fw_disk.specs.declared.reason.Reason.{Reason}
 use Rattle.fw_disk.specs.declared.name.Name.{Name}
@@ -19,7 +20,7 @@ use Rattle.dlmsfw.specs.declared.cause.NamedFile.{NamedFile}
 use Rattle.dlmsfw.specs.declared.cause.Place.{Place}
 use Rattle.dlmsfw.specs.declared.cause.Place.TheVariants.{Listen, ListenOf, Store, FactoryFile, Capacity, Capture, Keys, Counter}
 use Rattle.dlmsfw.specs.declared.refusal.Refusal.{Refusal}
-use Rattle.dlmsfw.specs.Refusals.{input_told, reason_told}
+use Rattle.dlmsfw.specs.Refusals.{book_told, input_told, reason_told}
 
 -- the name of a file that a reason is about
 abbrev pub name_in : Option Reason → Name
@@ -108,6 +109,8 @@ book_place_in ImageFault name places = option_map Image places.image
 book_place_in EmptyImage name places = option_map Image places.image
 book_place_in ImageTooLong name places = option_map Image places.image
 book_place_in BadSetup name places = option_map Open places.opened
+book_place_in (OpenRefused refused.EmptyImage) name places = option_map Image places.image
+book_place_in (OpenRefused refused.ImageTooLong) name places = option_map Image places.image
 book_place_in (OpenRefused refusal) name places = option_map Open places.opened
 book_place_in (CancelRefused refusal) name places = cancelled_place (option_map Cancel places.cancel) (option_map Campaign places.campaign)
 book_place_in (TooManyFailed failed) name places = option_map Threshold places.max_failed
@@ -140,9 +143,9 @@ TellsReason (Some (Keys file)) reason told = told ≡ reason_told reason
 TellsReason (Some (Counter file)) reason told = told ≡ reason_told reason
 TellsReason place reason told = Unit {0}
 
--- Of a threshold it is what the book shows.
+-- Of a book it is that reason, and without one what the book shows. Of a threshold it is what the book shows.
 abbrev pub TellsBookReason : Option BookPlace → Option Reason → Option InputCause → Option Refusal → Type 0
-TellsBookReason (Some (Book file)) reason input told = told ≡ reason_told reason
+TellsBookReason (Some (Book file)) reason input told = told ≡ book_told reason input
 TellsBookReason (Some (HeadCapture file)) reason input told = told ≡ reason_told reason
 TellsBookReason (Some (HeadKeys file)) reason input told = told ≡ reason_told reason
 TellsBookReason (Some (HeadCounter file)) reason input told = told ≡ reason_told reason

@@ -1,5 +1,5 @@
 -- Why an address or a file is refused.
-use Rattle.std.specs.Prelude.{Option}
+use Rattle.std.specs.Prelude.{Option, None, Some}
 use Rattle.std.specs.Option.{option_map}
 use Rattle.std.specs.declared.io.ErrorKind.{ErrorKind}
 use Rattle.std.specs.declared.io.ErrorKind.TheVariants.{AddrInUse, AddrNotAvailable, PermissionDenied}
@@ -23,3 +23,8 @@ reason_told reason = option_map (λ (r : Reason). File r.cause) reason
 -- why what was to be done is refused, if the list or the book shows it
 abbrev pub input_told : Option InputCause → Option Refusal
 input_told input = option_map Input input
+
+-- why a book is refused: the reason that came with the fault, and without one what the book shows
+abbrev pub book_told : Option Reason → Option InputCause → Option Refusal
+book_told (Some reason) input = Some (File reason.cause)
+book_told None input = input_told input

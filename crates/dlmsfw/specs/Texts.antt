@@ -1,16 +1,23 @@
--- What a second line begins with: the option that a fault is about, and of a file beside another its path.
+-- What a second line begins with: the option that a fault is about, and of a file beside another its path; or, of `live`, why no wires could be made.
 use Rattle.std.specs.Prelude.{ℕ, List, [], ◌++◌, Option, None, Some, codes, decimal}
 use Rattle.std.specs.Net.Text.{socket_text}
 use Rattle.fw_disk.specs.Endings.{ending_of}
 use Rattle.fw_disk.specs.declared.name.Name.{Name}
 use Rattle.fw_disk.specs.declared.name.Name.TheVariants.{Main, New, Journal}
 use Rattle.fw_plan.specs.declared.threshold.MaxFailed.TheVariants as max
+use Rattle.dlmsfw.specs.declared.cause.Cause.{Cause}
+use Rattle.dlmsfw.specs.declared.cause.Cause.TheVariants.{NoLoopback, TooManySockets}
 use Rattle.dlmsfw.specs.declared.cause.CounterFile.{CounterFile}
 use Rattle.dlmsfw.specs.declared.cause.NamedFile.{NamedFile}
 use Rattle.dlmsfw.specs.declared.cause.Place.{Place}
 use Rattle.dlmsfw.specs.declared.cause.Place.TheVariants as place
 use Rattle.dlmsfw.specs.declared.cause.BookPlace.{BookPlace}
 use Rattle.dlmsfw.specs.declared.cause.BookPlace.TheVariants as book
+
+-- why no wires could be made
+abbrev pub cause_text : Cause → List ℕ
+cause_text TooManySockets = codes "too many open files: each link takes two sockets; ulimit -n prints how many open files a process may have"
+cause_text NoLoopback = codes "no socket can be bound on 127.0.0.1: this system may have no loopback address, or the user no right to it"
 
 -- what stands behind FILE in the name of one of several meters
 abbrev pub number_text : Option ℕ → List ℕ

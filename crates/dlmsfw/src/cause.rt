@@ -3,10 +3,12 @@
 ghost use Rattle.std.specs.Prelude.{◌≡◌, ◌≢◌, MatchBool, None, Some};
 ghost use Rattle.std.specs.Option.{option_map};
 ghost use Rattle.dlmsfw.specs.Places.{TellsReason, TellsBookReason, answer_place_of, book_place_of, book_status, name_in, place_of, store_place_of};
-ghost use Rattle.dlmsfw.specs.Texts.{book_place_text, counter_text, file_text, place_text};
+ghost use Rattle.dlmsfw.specs.Refusals.{reason_told};
+ghost use Rattle.dlmsfw.specs.Texts.{book_place_text, cause_text, counter_text, file_text, place_text};
 
 use crate::refusal::Refusal;
 use crate::{FAULT, TOO_MANY_FAILED, refusal};
+use fw_book::BookError;
 use fw_cli::{
     CancelOptions, GiveUpOptions, HeadOptions, InputCause, MeterError, MeterFailure, MeterOptions,
     StatusOptions, SurveyOptions,
@@ -29,15 +31,17 @@ pub(crate) enum Cause {
 }
 
 impl fmt::Display for Cause {
+    ghost output = { λ cause. Some (cause_text cause) };
+
     fn fmt<W: fmt::Write>(&self, f: &mut fmt::Formatter<W>) -> fmt::Result {
-        f.write_str(match self {
-            Cause::TooManySockets => {
-                "too many open files: each link takes two sockets; ulimit -n prints how many open files a process may have"
-            }
-            Cause::NoLoopback => {
-                "no socket can be bound on 127.0.0.1: this system may have no loopback address, or the user no right to it"
-            }
-        })
+        match self {
+            Cause::TooManySockets => f.write_str(
+                "too many open files: each link takes two sockets; ulimit -n prints how many open files a process may have",
+            ),
+            Cause::NoLoopback => f.write_str(
+                "no socket can be bound on 127.0.0.1: this system may have no loopback address, or the user no right to it",
+            ),
+        }
     }
 }
 
@@ -479,7 +483,10 @@ pub(crate) fn book_place_of<'a>(
         })),
         Fault::Socket => Some(BookPlace::HeadListen(places.listen?)),
         Fault::ListFault | Fault::BadList(_) => Some(BookPlace::Meters(places.meters?)),
-        Fault::ImageFault | Fault::EmptyImage | Fault::ImageTooLong => {
+        Fault::ImageFault
+        | Fault::EmptyImage
+        | Fault::ImageTooLong
+        | Fault::OpenRefused(BookError::EmptyImage | BookError::ImageTooLong) => {
             Some(BookPlace::Image(places.image?))
         }
         Fault::BadSetup | Fault::OpenRefused(_) => Some(BookPlace::Open(places.opened?)),
@@ -519,7 +526,8 @@ pub(crate) fn book_status(fault: Fault) -> u8
 }
 
 /// Why what the fault of a head end is about is refused. Of a book, a capture, keys or counters it is the reason that came with the fault.
-/// Of an address, or of a file that is read, it is why the system refuses that now, if it does. Else it is what the list or the book shows.
+/// Of an address, or of a file that is read, it is why the system refuses that now, if it does. Else, and of a book without such a reason,
+/// it is what the list or the book shows.
 pub(crate) fn book_refusal_of(
     rt: &(impl Net + Files),
     because: &Because<Fault>,
@@ -529,7 +537,7 @@ pub(crate) fn book_refusal_of(
     ensures { TellsBookReason place.entry because.now.reason input result }
 {
     match (because.error, place?) {
-        (_, BookPlace::Book(_)) => refusal::of_reason(because.reason),
+        (_, BookPlace::Book(_)) => refusal::of_book(because.reason, input),
         (_, BookPlace::HeadCapture(_)) => refusal::of_reason(because.reason),
         (_, BookPlace::HeadKeys(_)) => refusal::of_reason(because.reason),
         (_, BookPlace::HeadCounter(_)) => refusal::of_reason(because.reason),

@@ -37,9 +37,9 @@ use fw_cli::{
     AnswerOptions, CancelOptions, Ended, GaveUp, GiveUpOptions, HeadOptions, InputCause,
     KeysFailure, KeysOptions, LedOut, LiveOptions, MeterFailure, MeterOptions, NameOptions,
     RehearseOptions, ReplayOptions, StatusOptions, StoredOptions, SurveyOptions, ToldFiles,
-    TraceError, TraceKeys, Untold, head_cause, keys_cause, run_answer, run_answer_stored,
-    run_cancel, run_give_up, run_head, run_keys, run_live, run_meter, run_name, run_rehearse,
-    run_replay, run_status, run_survey, run_trace, survey_cause, trace_links,
+    TraceError, TraceKeys, Untold, book_cause, head_cause, keys_cause, run_answer,
+    run_answer_stored, run_cancel, run_give_up, run_head, run_keys, run_live, run_meter, run_name,
+    run_rehearse, run_replay, run_status, run_survey, run_trace, survey_cause, trace_links,
 };
 use fw_disk::{Because, Cause, Name, Reason};
 use fw_faults::Fault;
@@ -473,8 +473,12 @@ fn cancel<'a, R: AllocGlobal + Files<File = File> + Print + Eprint>(
                 error: Fault::from(failure.error),
                 reason: failure.reason,
             };
-            let places = BookPlaces::of_cancel(options, failure.serial);
-            Err(Ending::Book(because, places, None))
+            let input = book_cause(rt, rt.alloc(), options.book, options.head, because.error);
+            Err(Ending::Book(
+                because,
+                BookPlaces::of_cancel(options, failure.serial),
+                input,
+            ))
         }
     }
 }
@@ -496,7 +500,8 @@ fn give_up<'a, R: AllocGlobal + Files<File = File> + Clock + Print + Eprint>(
                 error: Fault::from(because.error),
                 reason: because.reason,
             };
-            Err(Ending::Book(because, BookPlaces::of_give_up(options), None))
+            let input = book_cause(rt, rt.alloc(), options.book, options.head, because.error);
+            Err(Ending::Book(because, BookPlaces::of_give_up(options), input))
         }
     }
 }

@@ -156,14 +156,16 @@ Limits:
   an image     16777216 bytes (16 MiB), in 16384 blocks of 1 to 1024 bytes
   a campaign   256 meters
   a script     16 head ends and 256 meters
-  input        67108864 bytes (64 MiB), but for a capture that is traced, and what is audited
+  input        67108864 bytes (64 MiB), but for a capture that is traced, and
+               what is audited
 
 Exit status:
   0  the command did all its work
   1  a fault: standard error has `dlmsfw: NAME`
   2  a wrong command line: standard error says what is wrong
   4  `head` alone: no row is live, and a row failed
-  5  `head`: some rows aren't in the list, and no other is live; `give-up`: a meter had no live row
+  5  `head`: some rows aren't in the list, and no other is live; `give-up`: a
+     meter had no live row
   6  `head` alone: too many rows failed for the next wave to begin";
 
 /// The command that the words of a command line ask for.
@@ -221,7 +223,7 @@ fn dlmsfw<'a>(alloc: Global) -> Result<Command<'a>, AllocError> {
         .version("0.1.0")
         .propagate_version(true)
         .about(
-            "COSEM firmware distribution: meters that answer datagrams, head ends, names of images, scripts of campaigns, and captures",
+            "COSEM firmware distribution: meters that answer datagrams, head ends, names of\nimages, scripts of campaigns, and captures",
         )
         .after_help(ENDINGS)
         .subcommand_required(true);
@@ -303,7 +305,7 @@ const NEW_COUNTER: CommandOption = CommandOption {
     name: "new-counter",
     takes: Takes::Nothing,
     presence: Presence::With("keys"),
-    help: "Makes KEYS.counter, where no file is there: for keys that were never used",
+    help: "Makes KEYS.counter, where no file is there:\nfor keys that were never used",
 };
 
 /// The option that lets no datagram be overtaken.

@@ -2,7 +2,7 @@
 //! open is closed.
 
 ghost use Rattle.std.specs.Prelude.{◌≡◌};
-ghost use Rattle.dlmsfw.specs.Refusals.{input_told, reason_told, refusal_of};
+ghost use Rattle.dlmsfw.specs.Refusals.{book_told, input_told, reason_told, refusal_of};
 
 use fw_auditor::LineCause;
 use fw_cli::InputCause;
@@ -89,6 +89,16 @@ pub(crate) fn of_input(input: Option<InputCause>) -> Option<Refusal>
     match input {
         Some(cause) => Some(Refusal::Input(cause)),
         None => None,
+    }
+}
+
+/// Why a book is refused: the reason that came with the fault, and without one what the book shows.
+pub(crate) fn of_book(reason: Option<Reason>, input: Option<InputCause>) -> Option<Refusal>
+    ensures { result ≡ book_told reason input }
+{
+    match reason {
+        Some(reason) => Some(Refusal::File(reason.cause)),
+        None => of_input(input),
     }
 }
 

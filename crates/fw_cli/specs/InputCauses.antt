@@ -1,8 +1,10 @@
 -- Public vocabulary: why a list, a book or the waves of a rollout refuse what a head end was to do.
-use Rattle.std.specs.Prelude.{ℕ, List, IsSomeAnd}
+use Rattle.std.specs.Prelude.{◌≢◌, ℕ, List, IsSomeAnd}
 use Rattle.std.specs.declared.net.socket_addr.SocketAddr.{SocketAddr}
 use Rattle.fw_book.specs.Contents.{Contents}
 use Rattle.fw_book.specs.declared.error.BookError.TheVariants.{MeterBusy}
+use Rattle.fw_faults.specs.declared.fault.Fault.{Fault}
+use Rattle.fw_faults.specs.declared.fault.Fault.TheVariants as fault
 use Rattle.fw_host.specs.Busy.{IsFirstBusy}
 use Rattle.fw_host.specs.ListCauses.{HasCause}
 use Rattle.fw_host.specs.declared.busy.BusyMeter.{BusyMeter}
@@ -17,9 +19,9 @@ use Rattle.fw_plan.specs.declared.rows.WaveMeter.{WaveMeter}
 use Rattle.fw_plan.specs.declared.threshold.MaxFailed.{MaxFailed}
 use Rattle.fw_cli.specs.declared.head.HeadOptions.{HeadOptions}
 use Rattle.fw_cli.specs.declared.head_error.HeadError.{HeadError}
-use Rattle.fw_cli.specs.declared.head_error.HeadError.TheVariants.{BadList, OpenRefused, TooManyFailed}
+use Rattle.fw_cli.specs.declared.head_error.HeadError.TheVariants.{BadList, ForeignHead, OpenRefused, TooManyFailed}
 use Rattle.fw_cli.specs.declared.input_cause.InputCause.{InputCause}
-use Rattle.fw_cli.specs.declared.input_cause.InputCause.TheVariants.{Busy, Failed, Line}
+use Rattle.fw_cli.specs.declared.input_cause.InputCause.TheVariants.{Busy, Failed, Line, Owner}
 use Rattle.fw_cli.specs.declared.keys.KeyMakingError.{KeyMakingError}
 use Rattle.fw_cli.specs.declared.keys.KeyMakingError.TheVariants as keys
 
@@ -47,7 +49,13 @@ abbrev pub IsCauseOf : HeadOptions → HeadError → InputCause → Type 0
 IsCauseOf options (BadList line) (Line cause) = IsOfText options.listen cause
 IsCauseOf options (OpenRefused MeterBusy) (Busy busy) = IsSomeAnd options.opening (λ opening. IsOfBook opening busy)
 IsCauseOf options (TooManyFailed failed) (Failed stop) = IsOfWaves options.max_failed stop
+IsCauseOf options ForeignHead (Owner owner) = owner ≢ options.head
 IsCauseOf options error cause = ⊥
+
+-- why `cancel` or `give-up` of this head end ended by this fault
+abbrev pub IsCauseOfBook : ℕ → Fault → InputCause → Type 0
+IsCauseOfBook head fault.ForeignHead (Owner owner) = owner ≢ head
+IsCauseOfBook head error cause = ⊥
 
 -- why keys for the meters of a list weren't made
 abbrev pub IsCauseOfKeys : SocketAddr → KeyMakingError → InputCause → Type 0

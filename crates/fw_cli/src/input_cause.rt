@@ -1,19 +1,20 @@
 //! Why a list, a book or the waves of a rollout refuse what was to be done: once a command has ended, they are read again for that.
 
-ghost use Rattle.std.specs.Prelude.{IfSome};
+ghost use Rattle.std.specs.Prelude.{◌≢◌, IfSome};
 ghost use Rattle.fw_host.specs.Busy.{IsFirstBusy};
 ghost use Rattle.fw_plan.specs.Openings.{lacking};
 ghost use Rattle.fw_plan.specs.Waves.{wave_rows};
-ghost use Rattle.fw_cli.specs.InputCauses.{IsCauseOf, IsCauseOfKeys, IsOfBook, IsOfText, IsOfWaves, IsStopOf};
+ghost use Rattle.fw_cli.specs.InputCauses.{IsCauseOf, IsCauseOfBook, IsCauseOfKeys, IsOfBook, IsOfText, IsOfWaves, IsStopOf};
 
 use crate::head::{HeadOptions, bytes_of_file, list_of_file};
 use crate::head_error::HeadError;
 use crate::keys::{KeyMakingError, KeysOptions};
 use crate::status::bytes_of_book;
 use fw_book::{Book, BookError};
+use fw_faults::Fault;
 use fw_host::{BusyMeter, ListCause, Opening, busy_meter, line_cause, listed_meters};
 use fw_kept::read_kept;
-use fw_names::MeterId;
+use fw_names::{HeadId, MeterId};
 use fw_plan::{Gate, MaxFailed, TooManyFailed, WaveMeter, gate_of, lacking, wave_rows};
 use std::alloc::Global;
 use std::fmt;
@@ -30,6 +31,8 @@ pub enum InputCause {
     Busy(BusyMeter),
     /// More rows of the waves before this one failed than may.
     Failed(TooManyFailed),
+    /// The book is this head end's.
+    Owner(HeadId),
 }
 
 impl fmt::Display for InputCause {
@@ -47,6 +50,10 @@ impl fmt::Display for InputCause {
                     f,
                     "{failed} of {rows} rows before wave {wave} failed; it begins with --max-failed {failed}"
                 )
+            }
+            InputCause::Owner(head) => {
+                let head = head.number();
+                write!(f, "it is the book of head end {head}")
             }
         }
     }
@@ -74,6 +81,29 @@ pub fn head_cause<F: Files<File = File> + Net>(
         HeadError::TooManyFailed(_) => {
             let stop = failed_now(rt, alloc, options)?;
             Some(InputCause::Failed(stop))
+        }
+        HeadError::ForeignHead => {
+            let owner = owner_now(rt, alloc, options.book.path, options.head)?;
+            Some(InputCause::Owner(owner))
+        }
+        _ => None,
+    }
+}
+
+/// Why `cancel` or `give-up` of this head end ended by this fault, if that is to be seen in the book at this path. It is read as it is now.
+pub fn book_cause<F: Files<File = File>>(
+    rt: &F,
+    alloc: Global,
+    path: &str,
+    head: HeadId,
+    fault: Fault,
+) -> Option<InputCause>
+    ensures { IfSome result (IsCauseOfBook head fault) }
+{
+    match fault {
+        Fault::ForeignHead => {
+            let owner = owner_now(rt, alloc, path, head)?;
+            Some(InputCause::Owner(owner))
         }
         _ => None,
     }
@@ -174,6 +204,20 @@ fn failed_in(
         Gate::TooManyFailed(stop) => Some(stop),
         Gate::Open(_) | Gate::Over => None,
     }
+}
+
+/// The head end whose book is in a file, if it isn't this one.
+fn owner_now<F: Files<File = File>>(
+    rt: &F,
+    alloc: Global,
+    path: &str,
+    head: HeadId,
+) -> Option<HeadId>
+    ensures { IfSome result (λ owner. owner ≢ head) }
+{
+    let book = book_now(rt, alloc, path)?;
+    let owner = book.head();
+    if owner == head { None } else { Some(owner) }
 }
 
 /// The book in a file, if one is there.

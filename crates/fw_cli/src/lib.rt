@@ -43,7 +43,7 @@ pub use fw_workers::MAX_WORKERS;
 pub use give_up::{GaveUp, GiveUpError, GiveUpOptions, run_give_up};
 pub use head::{HeadOptions, LedOut, run_head};
 pub use head_error::{HeadError, HeadFailure};
-pub use input_cause::{InputCause, head_cause, keys_cause};
+pub use input_cause::{InputCause, book_cause, head_cause, keys_cause};
 pub use keys::{KeyMakingError, KeysFailure, KeysOptions, run_keys};
 pub use live::{LiveError, LiveOptions, run_live};
 pub use meter::{MeterOptions, run_meter};

@@ -174,7 +174,7 @@ const MANUAL: &Manual = &Manual {
             name: "capacity",
             takes: Takes::Within("BYTES", 1, MAX_IMAGE_SIZE),
             presence: Presence::Default("1048576"),
-            help: "Bytes of its longest image, 1 to 16777216, in at most 16384 blocks",
+            help: "Bytes of its longest image, 1 to 16777216,\nin at most 16384 blocks",
         },
         CommandOption {
             name: "factory-file",

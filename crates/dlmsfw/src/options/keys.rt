@@ -10,21 +10,25 @@ use std::net::{IpAddr, SocketAddr};
 
 /// What the long help begins with.
 const ABOUT: &str = "\
-Makes new keys for the links of a head end with the meters of LIST, in files for both ends, and ends.
+Makes new keys for the links of a head end with the meters of LIST, in files for
+both ends, and ends.
 
   FOLDER/head.keys           for `head --keys`: the keys of each link
-  FOLDER/meter.NUMBER.keys   for `meter --keys` of the meter of this number: the keys of its one link
+  FOLDER/meter.NUMBER.keys   for `meter --keys` of the meter of this number: the
+                             keys of its one link
 
-Each link has keys of its own, from the system's randomness, which stand in both files. No one but the
-owner may read or write the files, and no file is written over: new keys go into another FOLDER. Where one
-can't be made, those that were made before it are removed.
+Each link has keys of its own, from the system's randomness, which stand in both
+files. No one but the owner may read or write the files, and no file is written
+over: new keys go into another FOLDER. Where one can't be made, those that were
+made before it are removed.
 
-A file is brought to its end where nobody else can read it, and is no longer needed here: who has the keys
-of a link can do what either end can. Its end makes FILE.counter beside it, by --new-counter at its first
-start, and has to be able to write there.
+A file is brought to its end where nobody else can read it, and is no longer
+needed here: who has the keys of a link can do what either end can. Its end
+makes FILE.counter beside it, by --new-counter at its first start, and has to be
+able to write there.
 
-LIST is read as `head` reads it. The meters take datagrams of this head end from the address of --listen
-alone, so that is the one that they see.
+LIST is read as `head` reads it. The meters take datagrams of this head end from
+the address of --listen alone, so that is the one that they see.
 
 Standard output gets a line for each file, once all are there:
 
@@ -46,14 +50,18 @@ prints
 const ENDINGS: &str = "\
 Exit status:
   0  all files were made
-  1  a fault: standard error has `dlmsfw: NAME`, with one of these names, and of the first three a second
-     line with the option that it is about and the cause, if that is known
+  1  a fault: standard error has `dlmsfw: NAME`, with one of these names, and of
+     the first three a second line with the option that it is about and the
+     cause, if that is known
        ListFault     LIST can't be opened or read; `head --help` has the causes
-       BadList L     line L of LIST, counted from 1, is none of a list, as `head --help` says it
-       KeysFault     a file can't be made: one is there, there is no such folder, this user may not write
-                     to it, the disk is full or failed or may only be read. The second line has its path
+       BadList L     line L of LIST, counted from 1, is none of a list, as
+                     `head --help` says it
+       KeysFault     a file can't be made: one is there, there is no such
+                     folder, this user may not write to it, the disk is full or
+                     failed or may only be read. The second line has its path
        NoRandomness  the system gives no random bytes
-       Output        standard output can't be written, as on a full disk. The files are there
+       Output        standard output can't be written, as on a full disk. The
+                     files are there
        OutOfMemory   the system gives no more memory
      Except at Output, no file was made.
   2  a wrong command line: standard error says what is wrong";

@@ -7,7 +7,7 @@ use std::alloc::{AllocError, Global};
 /// A command, its help and its options.
 pub(super) struct Manual {
     pub(super) name: &'static str,
-    /// What it does, in a line.
+    /// What it does, in a line or two of at most 68 characters.
     pub(super) about: &'static str,
     pub(super) options: &'static [CommandOption],
 }
@@ -17,6 +17,7 @@ pub(super) struct CommandOption {
     pub(super) name: &'static str,
     pub(super) takes: Takes,
     pub(super) presence: Presence,
+    /// What it is for, in lines of at most 70 characters, with its default and its forms behind the last one.
     pub(super) help: &'static str,
 }
 
@@ -52,7 +53,8 @@ pub(super) enum Presence {
     Default(&'static str),
 }
 
-/// The parser of a command, whose long help begins and ends with these texts.
+/// The parser of a command, whose long help begins and ends with these texts. Its help fits a terminal of 80 columns: each option has its text
+/// below it.
 ///
 /// The texts are no part of the manual: what is proved of a constant is said for each of its parts, and each time with all its texts.
 pub(super) fn command<'a>(
@@ -64,6 +66,7 @@ pub(super) fn command<'a>(
     let mut command = Command::new(alloc, manual.name)
         .about(manual.about)
         .long_about(long_about)
+        .next_line_help(true)
         .after_help(STATUSES)
         .after_long_help(endings);
     for option in manual.options {

@@ -9,13 +9,15 @@ use std::alloc::{AllocError, Global};
 
 /// What the long help begins with.
 const ABOUT: &str = "\
-Prints the name of an image, which is what image_transfer_initiate carries as its identifier, and
-what a meter that runs the image answers as its active firmware identifier.
+Prints the name of an image, which is what image_transfer_initiate carries as
+its identifier, and what a meter that runs the image answers as its active
+firmware identifier.
 
-Standard input has the bytes of the image, 1 to 16777216. Standard output gets one line, the 82
-digits of the name in lower-case hexadecimal: 01, the number of the head end and the serial number
-of its campaign in 8 digits each, and the SHA-256 of the image. A name with a release of at least 1
-has 90 digits: 02 in place of 01, and the release in 8 digits before the SHA-256. All input is read
+Standard input has the bytes of the image, 1 to 16777216. Standard output gets
+one line, the 82 digits of the name in lower-case hexadecimal: 01, the number of
+the head end and the serial number of its campaign in 8 digits each, and the
+SHA-256 of the image. A name with a release of at least 1 has 90 digits: 02 in
+place of 01, and the release in 8 digits before the SHA-256. All input is read
 before anything is written.
 
 Example, the image `abc` in campaign 1 of head end 7:
@@ -31,7 +33,8 @@ const ENDINGS: &str = "\
 Exit status:
   0  the name was printed
   1  a fault: standard error has `dlmsfw: NAME`, with one of these names
-       Input         a read of standard input failed, as where it is closed or a folder
+       Input         a read of standard input failed, as where it is closed or a
+                     folder
        TooMuchInput  standard input has more than 64 MiB
        EmptyImage    standard input has no byte
        ImageTooLong  standard input has more than 16777216 bytes
