@@ -8,6 +8,7 @@ use fw_fleet_audit::{RowRule, SwitchRule};
 use fw_names::{CampaignId, HeadId, ImageName, MeterId, digest_of};
 use fw_order::OrderRule;
 use fw_rows::head_number;
+use fw_sealport::Unopened;
 use serde_json::{Value, json};
 use std::alloc::{AllocError, Global};
 use std::io::Write;
@@ -436,6 +437,24 @@ pub(crate) fn stray_why(rule: Stray) -> &'static str {
         Stray::OtherHeads => "others could ask the meter than the addresses of --head",
         Stray::StartedAsMeter => "meters started, and no head end",
         Stray::NoteOfMeter => "a note of a meter, and none of a head end",
+    }
+}
+
+/// The name of why a meter didn't seal what it sent.
+pub(crate) fn unsealed_name(why: Unopened) -> &'static str {
+    match why {
+        Unopened::Stranger => "NoKey",
+        Unopened::Repeated => "CounterUsed",
+        Unopened::NotSealed | Unopened::OutOfMemory => "NotSealed",
+    }
+}
+
+/// Why it is so.
+pub(crate) fn unsealed_why(why: Unopened) -> &'static str {
+    match why {
+        Unopened::Stranger => "no key file has a link with the end that this goes to",
+        Unopened::Repeated => "its counter isn't above those of what was sent there before",
+        Unopened::NotSealed | Unopened::OutOfMemory => "the meter didn't seal it under its keys",
     }
 }
 
