@@ -324,12 +324,17 @@ fn sealing_of<'a>(given: &ArgMatches<'a>) -> Option<SealingOptions<'a>> {
     Some(SealingOptions {
         keys: given.get_str("keys")?,
         makes_counter: given.get_flag("new-counter"),
-        order: if given.get_flag("strict") {
-            Order::Strict
-        } else {
-            Order::Loose
-        },
+        order: order_of(given),
     })
+}
+
+/// The order in which the counters of what comes are taken.
+fn order_of(given: &ArgMatches<'_>) -> Order {
+    if given.get_flag("strict") {
+        Order::Strict
+    } else {
+        Order::Loose
+    }
 }
 
 /// Where the capture of a run goes.

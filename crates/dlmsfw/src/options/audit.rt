@@ -1,11 +1,10 @@
 //! The command `audit`, and its help.
 
 use super::manual::{CommandOption, Manual, Presence, Takes};
-use super::{Invocation, WrongValue, address, manual};
+use super::{Invocation, WrongValue, address, manual, order_of};
 use clap::{ArgMatches, Command};
 use fw_auditor::{AuditForm, AuditOptions, FreshMeter, HeadLog, KeyOption};
 use fw_blocks::{MAX_BLOCK_SIZE, MAX_IMAGE_SIZE};
-use fw_sealport::Order;
 use std::alloc::{AllocError, Global};
 use std::net::SocketAddr;
 
@@ -51,14 +50,14 @@ one of --book. Then FILE has a line for each meter that it asked, and each end
 has the address that the others see, so none listens at 0.0.0.0 or [::]. All
 captures are in memory at once. No clock is asked, and nothing of what was lost.
 
-A capture is plain, unless --keys has the address of a head end, as captures of
-meters have it, its number, and its key file, as of `head --keys`. A meter that
-a key file has a link with is one with keys: what its capture has is opened, and
-what came and doesn't open, or came again, it passed over. --strict stands for
-that of `meter`. Captures of head ends aren't opened. Without --keys a sealed
-capture doesn't fit. While a meter verifies it takes a turn where it passed
-something over: captures of earlier releases have no note of that, and then may
-not fit though all is well.
+A capture is plain, but for that of a meter with keys, which is sealed. --keys
+opens that: it has the address of a head end, as captures of meters have it, its
+number, and its key file, as of `head --keys`. A meter that such a file has a
+link with is one with keys, and any other has none. What came to it and doesn't
+open, or came again, it passed over. With --strict these meters ran with it too.
+Captures of head ends aren't opened. Without --keys a sealed one doesn't fit.
+While a meter verifies it takes a turn where it passes something over: captures
+of earlier releases have no note of that, and may not fit though all is well.
 
 Meters of one process, as with --count, have one capture: each has a line with
 it. What a power cut left of a last packet is left out, as the meter cuts it off
@@ -101,26 +100,28 @@ Standard output gets these lines:
 
 For a record RULE is NotStarted, NothingVerified, NothingOwed, OtherReply or
 ReplyMissing, for what no meter does; NotSealed, NoKey or CounterUsed, where a
-meter with keys sent what it didn't seal, or to an end that no key file has at
-this address, or with a counter that it had used; NotOffered, for what no head
-end with this book sends there; NoEntry, Elsewhere, ToItself, UnnamedTurn,
-StartedAsMeter or NoteOfMeter, for a packet that is of no end with this capture;
-StartedAsHead or OtherHeads, where a head end started, or meters with other
-addresses of --head; NeverSent, for what no end sends there; or SentLater, for
-what is sent only after something that needs it. For a store it is OtherStore,
-ForeignUndo, BadFile, BadHeader or BadImage; for a book NoBook, if it has no
-record; for a switch NotOffered, OtherBytes, OtherName or ReleaseFell; for a row
-NotAudited, where its meter has no line or doesn't fit, DoneNotActivated or
-NotClaimed.
+meter with keys sent what it didn't seal, or to an end that it has no link with,
+or with a counter that it had used; NotOffered, for what no head end with this
+book sends there; NoEntry, Elsewhere, ToItself, UnnamedTurn, StartedAsMeter or
+NoteOfMeter, for a packet that is of no end with this capture; StartedAsHead or
+OtherHeads, where a head end started, or meters with other addresses of --head;
+NeverSent, for what no end sends there; or SentLater, for what is sent only
+after something that needs it. For a store it is OtherStore, ForeignUndo,
+BadFile, BadHeader or BadImage; for a book NoBook, if it has no record; for a
+switch NotOffered, OtherBytes, OtherName or ReleaseFell; for a row NotAudited,
+where its meter has no line or doesn't fit, DoneNotActivated or NotClaimed.
 
 With `--report json` each line is an object of JSON with the same.
 
 That all fits means that the files tell of meters and head ends, and not that
 they are genuine: whoever can change all of them can make others that fit.
 
-Examples, meters of a head end, and of two with their captures:
+Examples, meters of a head end, those of one with keys, and of two with their
+captures:
 
   ./dlmsfw audit --audited audited.csv --book head.book
+  ./dlmsfw audit --audited audited.csv --book head.book \\
+    --keys 10.0.0.1:4058,7,head.keys
   ./dlmsfw audit --audited audited.csv --head 10.0.0.1:4058 \\
     --head 10.0.0.2:4058 --head-log 10.0.0.1:4058,7.pcap,7.book \\
     --head-log 10.0.0.2:4058,8.pcap,8.book";
@@ -143,7 +144,8 @@ Exit status:
        KeysFault     a key file can't be read, is no regular file, or has more
                      than 64 MiB
        KeysReadable  others than its owner may read or write a key file
-       BadKeys L CAUSE  line L of a key file, counted from 1, is none of it;
+       BadKeys L CAUSE
+                     line L of a key file, counted from 1, is none of it;
                      `meter --help` has the causes
        FactoryFault  the file of --factory-file can't be read
        BadSetup      no meter can be made with --capacity and the factory image:
@@ -247,11 +249,7 @@ pub(super) fn invoked<'a>(
         books: Vec::from_slice(alloc, given.get_strs("book").unwrap_or(&[]))?,
         head_logs: head_logs_of(alloc, given.get_strs("head-log").unwrap_or(&[]))?,
         keys: keys_of(alloc, given.get_strs("keys").unwrap_or(&[]))?,
-        order: if given.get_flag("strict") {
-            Order::Strict
-        } else {
-            Order::Loose
-        },
+        order: order_of(given),
         heads: heads_of(alloc, given.get_strs("head").unwrap_or(&[]))?,
         fresh: FreshMeter {
             block_size,
