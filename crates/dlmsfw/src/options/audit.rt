@@ -55,7 +55,8 @@ opens that: it has the address of a head end, as captures of meters have it, its
 number, and its key file, as of `head --keys`. A meter that such a file has a
 link with is one with keys, and any other has none. What came to it and doesn't
 open, or came again, it passed over. With --strict these meters ran with it too.
-Captures of head ends aren't opened. Without --keys a sealed one doesn't fit.
+Captures of head ends aren't opened, so --keys isn't taken with --head-log.
+Without --keys a sealed capture doesn't fit.
 While a meter verifies it takes a turn where it passes something over: captures
 of earlier releases have no note of that, and may not fit though all is well.
 
