@@ -89,6 +89,13 @@ pub none_more : (heads : List KeyedHead) (i : ℕ) (head : KeyedHead) (meter : �
 none_more heads i head meter within is none here = subst (λ (hs : List KeyedHead). HasNoLink hs meter) (sym (one_more heads i head within is))
     (All-push (λ (h : KeyedHead). HasNoEnd h.file.entries meter) (take i heads) head none here)
 
+-- a file that has one is among no such files
+pub some_link : (heads : List KeyedHead) (i : ℕ) (head : KeyedHead) (meter : ℕ) (entry : Entry ℕ) → i < length heads → head ≡ get_or heads i head
+    → Contains head.file.entries entry → entry.end ≡ meter → HasNoLink heads meter → ⊥
+some_link heads i head meter entry within is (k, inside, there) named none =
+    let here : HasNoEnd head.file.entries meter = subst (λ (h : KeyedHead). HasNoEnd h.file.entries meter) (sym is) (none i head within) in
+    here k entry inside (ap (λ (e : Entry ℕ). e.end) there ∙ named)
+
 -- all files
 pub all_links : (view : Ends → Ends) (order : Order) (heads : List KeyedHead) (i meter : ℕ) (links : Links) → length heads ≤ i → AreLinksBy view order (take i heads) meter links
     → AreLinksBy view order heads meter links

@@ -1,6 +1,6 @@
 //! The links of meters, by the key files of head ends.
 
-ghost use Rattle.std.specs.Prelude.{◌≡◌, IfOk, MatchOption, false};
+ghost use Rattle.std.specs.Prelude.{◌≡◌, IfOk, MatchOption, false, true};
 ghost use Rattle.std.specs.List.{AllZip};
 ghost use Rattle.fw_sealport.specs.declared.window.Order.TheVariants.{Strict};
 ghost use Rattle.fw_keys.specs.Links.{HasNoEnd};
@@ -103,7 +103,8 @@ fn link_of_meter(
 
 /// Whether a file has a link with this meter.
 pub(crate) fn has_link(heads: &[KeyedHead], meter: MeterId) -> bool
-    ensures { result ≡ false → HasNoLink heads.now meter }
+    ensures none { result ≡ false → HasNoLink heads.now meter }
+    ensures some { result ≡ true → ¬ HasNoLink heads.now meter }
 {
     for head in heads {
         match head.file.link_with(&meter) {

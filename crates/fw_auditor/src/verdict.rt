@@ -106,7 +106,7 @@ fn append_audited<'c>(
             alloc, text, given, subject, begin, capture, log, end,
         ),
         Some(Reading::Unopened(error)) => {
-            append_unopened(alloc, text, given.options.report, subject, *error)?;
+            append_unopened(alloc, text, given.options.report, subject, capture, *error)?;
             Ok(Verdict::Unfit)
         }
     }
@@ -182,8 +182,11 @@ fn append_unopened(
     text: &mut String,
     form: AuditForm,
     subject: &Subject<'_>,
+    capture: &[u8],
     error: SealedLogError,
 ) -> Result<(), AllocError> {
+    let whole = whole_part(alloc, capture);
+    append_rest(alloc, text, form, subject.capture, capture, whole)?;
     let whose = Whose::Meter(subject.meter);
     match error {
         SealedLogError::NoLog(error) => {

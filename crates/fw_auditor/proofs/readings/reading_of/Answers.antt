@@ -11,7 +11,7 @@ use Rattle.fw_auditor.proofs.readings.reading_of.Goals as goal
 
 pub returns-then-not-has_link : goal.returns-then-not-has_link
 returns-then-not-has_link c =
-    subst (λ (heads : List KeyedHead). HasNoLink heads c.args.subject.now.meter) c.deref.ensures.value (c.has_link.ensures c.if-not-has_link.true)
+    subst (λ (heads : List KeyedHead). HasNoLink heads c.args.subject.now.meter) c.deref.ensures.value (c.has_link.ensures.none c.if-not-has_link.true)
 
 pub returns-in-Ok : goal.returns-in-Ok
 returns-in-Ok c =
