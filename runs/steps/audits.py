@@ -261,6 +261,10 @@ def what_a_meter_with_keys_did_not_departs(place):
     departs("NotSealed", 2, own, data=turned)
     departs("CounterUsed", 3, own, data=whole[:places[3]] + whole[places[2]:])
     departs("CounterUsed", len(places) - 1, own, data=whole + whole[places[2]:places[3]])
+    changed.write_bytes(whole[:-1])
+    for keys in (own, other):
+        _, lines, _ = audited(place, at, changed, folder / "m.fw", "--keys", keys)
+        wants(lines[0] == f"cut {changed} {len(whole) - 1 - places[-2]} bytes", f"of an end that is cut off it says {lines}")
 
 
 # To be seen: a value that is taken though it is no head end with its keys; keys that are taken with captures of head ends; a key file that is none
