@@ -220,7 +220,7 @@ def led_with_keys(place):
 
 
 # To be seen: a meter with keys that has no note of the turn that it takes where what came doesn't open; an audit that takes that, or what came
-# again, for a request, or what came after a start for what came before.
+# again, for a request, or what came after a start for what came before; or that doesn't tell how much says nothing.
 def what_a_meter_with_keys_did_fits(place):
     """A meter with keys fits by the key file of its head end, with all that it took."""
     at, head = led_with_keys(place)
@@ -228,9 +228,12 @@ def what_a_meter_with_keys_did_fits(place):
     turns = capture.read_bytes().count(b"dlmsfw turn ")
     wants(turns == 1, f"its capture has {turns} turns")
     status, lines, said = audited(place, at, capture, place.folder / "m.fw", "--keys", f"{head},7,{head_keys(place.folder)}")
-    # Ten requests of the transfer, the verify, four GET and the activate were taken, and each has its reply.
-    wanted = ["meter 1 ok 32 datagrams 2 starts", f"activated 1 7 1 0 {digest}", "ok"]
+    # Ten requests of the transfer, the verify, four GET and the activate were taken, and each has its reply. Ten came again, and one didn't open.
+    wanted = [f"passed {capture} 11 datagrams", "meter 1 ok 32 datagrams 2 starts", f"activated 1 7 1 0 {digest}", "ok"]
     wants((status, lines, said) == (0, wanted, []), f"it ends with {status}, {lines} and {said}")
+    _, lines, _ = audited(place, at, capture, place.folder / "m.fw", "--keys", f"{head},7,{place.folder}/head.keys", "--report", "json")
+    told = [it for it in map(json.loads, lines) if "passed" in it]
+    wants(told == [{"datagrams": 11, "passed": str(capture)}], f"as JSON it tells {told}")
 
 
 # To be seen: an audit that passes what a meter with keys didn't seal, or a counter that it used before; that opens with other keys, another title

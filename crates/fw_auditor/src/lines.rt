@@ -83,6 +83,23 @@ pub(crate) fn append_cut(
     }
 }
 
+/// Appends the line of a sealed capture of which so many datagrams were passed over.
+pub(crate) fn append_passed(
+    alloc: Global,
+    text: &mut String,
+    form: AuditForm,
+    path: &str,
+    count: usize,
+) -> Result<(), AllocError> {
+    match form {
+        AuditForm::Lines => write!(text, "passed {path} {count} datagrams\n"),
+        AuditForm::Json => {
+            let value = json!(in alloc; {"datagrams": count, "passed": path})?;
+            append_object(alloc, text, &value)
+        }
+    }
+}
+
 /// Appends the line of a meter whose capture and store fit, and one for each image that it switched to.
 pub(crate) fn append_fits(
     alloc: Global,

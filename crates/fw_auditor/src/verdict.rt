@@ -11,8 +11,9 @@ use crate::error::Unaudited;
 use crate::files::{AuditFault, FoundStores, StoreFiles};
 use crate::keys::KeyedHead;
 use crate::lines::{
-    AuditForm, Whose, append_cut, append_fault, append_fits, append_misfit, append_record,
-    append_switch, rule_name, rule_why, stray_name, stray_why, unsealed_name, unsealed_why,
+    AuditForm, Whose, append_cut, append_fault, append_fits, append_misfit, append_passed,
+    append_record, append_switch, rule_name, rule_why, stray_name, stray_why, unsealed_name,
+    unsealed_why,
 };
 use crate::list::Subject;
 use crate::options::{AuditOptions, FreshMeter};
@@ -144,7 +145,7 @@ fn append_plain<'c>(
     }
 }
 
-/// The same of a meter by its log in plain words, as its capture has it.
+/// The same of a meter by its log in plain words, as its capture has it. The line of what that log passes over comes first.
 fn append_opened<'c>(
     alloc: Global,
     text: &mut String,
@@ -167,6 +168,7 @@ fn append_opened<'c>(
         capture,
         whole_part(alloc, capture),
     )?;
+    append_passed(alloc, text, form, subject.capture, log.count_of_passed())?;
     match audit_opened(alloc, &given.options.heads, begin, log, end) {
         Ok(found) => append_fitting(alloc, text, given, subject, found),
         Err(error) => {

@@ -135,7 +135,7 @@ module _ (hears seals : Links → Type 0) where
 
 -- ---- as many marks as items
 
-mapped : (items : List LogItem) → length (log_of items) ≡ length items
+pub mapped : (items : List LogItem) → length (log_of items) ≡ length items
 mapped [] = refl
 mapped (item ∷ items) = ap suc (mapped items)
 

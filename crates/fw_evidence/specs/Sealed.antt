@@ -105,6 +105,13 @@ pub record IsSealedLogOf (hears seals : Links → Type 0) (site : Site) (capture
   pub last : Opening
   pub opens : Opens hears first wire at log marks last
 
+-- as it stands, a capture has so many items of the end at a site
+pub record HasItems (site : Site) (capture : List ℕ) (count : ℕ) : Type 0 where
+  pub wire : List Item
+  pub at : List Mark
+  pub is : IsLogOf site capture wire at
+  pub many : count ≡ length wire
+
 -- ---- a capture that is none
 
 -- behind items that open stands a datagram that is sent, in the record of this mark, which the end hasn't sealed so, for this reason

@@ -1,6 +1,6 @@
 //! A log that was opened, which has its datagrams itself.
 
-ghost use Rattle.std.specs.Prelude.{◌≡◌, ◌++◌, ◌<◌, [], IfOk, OnErr, OnOk, length, map};
+ghost use Rattle.std.specs.Prelude.{◌≡◌, ◌++◌, ◌-◌, ◌<◌, [], IfOk, OnErr, OnOk, length, map};
 ghost use Rattle.fw_audit.specs.Log.{Item, item_of, log_of};
 ghost use Rattle.fw_evidence.specs.Private.{said_in};
 ghost use Rattle.fw_evidence.specs.Sealed.{items_in, marks_in, opened_item};
@@ -51,15 +51,19 @@ struct OpenedEntry {
 #[derive(Drop)]
 pub struct OpenedLog {
     entries: Vec<OpenedEntry>,
+    /// How many items it was opened from.
+    count: usize,
 }
 
 impl OpenedLog {
-    /// A log without an item.
-    pub(crate) fn new(alloc: Global) -> OpenedLog
-        ensures { result.entries.items ≡ [] }
+    /// A log without an item, to be opened from so many.
+    pub(crate) fn new(alloc: Global, count: usize) -> OpenedLog
+        ensures items { result.entries.items ≡ [] }
+        ensures count { result.count ≡ count }
     {
         OpenedLog {
             entries: Vec::new(alloc),
+            count,
         }
     }
 
@@ -67,6 +71,7 @@ impl OpenedLog {
     pub(crate) fn add(&mut self, mark: Mark, said: Option<OpenedItem>) -> Result<(), AllocError>
         ensures items { OnOk result (items_in self.new ≡ items_in self.old ++ said_in said) }
         ensures marks { OnOk result (marks_in self.new ≡ marks_in self.old ++ map (λ (_ : Item). mark) (said_in said)) }
+        ensures count { OnOk result (self.new.count ≡ self.old.count) }
     {
         match said {
             Some(item) => {
@@ -75,6 +80,13 @@ impl OpenedLog {
             }
             None => Ok(()),
         }
+    }
+
+    /// How many datagrams say nothing in it, of those that came.
+    pub fn count_of_passed(&self) -> usize
+        ensures { result ≡ self.now.count - length (items_in self.now) }
+    {
+        self.count.saturating_sub(self.entries.len())
     }
 
     /// The log, as an audit has it.

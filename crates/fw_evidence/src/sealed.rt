@@ -3,7 +3,7 @@
 ghost use Rattle.std.specs.Prelude.{◌≡◌, IfErr, IfOk, length};
 ghost use Rattle.fw_audit.specs.Log.{log_of};
 ghost use Rattle.fw_evidence.specs.Private.{IsOpened, IsUnopened, refusal_at};
-ghost use Rattle.fw_evidence.specs.Sealed.{IsNoSealedLog, IsSealedLogOf, items_in, marks_in};
+ghost use Rattle.fw_evidence.specs.Sealed.{HasItems, IsNoSealedLog, IsSealedLogOf, items_in, marks_in};
 
 use crate::error::{LogError, Mark};
 use crate::log::read_log;
@@ -51,6 +51,7 @@ pub fn read_sealed_log<K: EndKeys>(
     capture: &[u8],
 ) -> Result<OpenedLog, SealedLogError>
     ensures log { IfOk result (λ log. IsSealedLogOf (K.hears keys.now) (K.seals keys.now) site.entry capture.now (items_in log) (marks_in log)) }
+    ensures count { IfOk result (λ log. HasItems site.entry capture.now log.count) }
     ensures none { IfErr result (λ error. IsNoSealedLog (K.hears keys.now) (K.seals keys.now) site.entry capture.now error) }
 {
     match read_log(alloc, site, capture) {
@@ -68,13 +69,14 @@ fn open_log<K: EndKeys>(
 ) -> Result<OpenedLog, SealedLogError>
     requires { length marks.now ≡ length wire.now }
     ensures opened { IfOk result (λ log. IsOpened (K.hears keys.now) (K.seals keys.now) (log_of wire.now) marks.now log) }
+    ensures count { IfOk result (λ log. log.count ≡ length wire.now) }
     ensures refused { IfErr result (λ error. IsUnopened (K.hears keys.now) (K.seals keys.now) (log_of wire.now) marks.now error) }
 {
     let mut opening = match Opening::new(alloc, keys) {
         Ok(opening) => opening,
         Err(_) => return Err(SealedLogError::OutOfMemory),
     };
-    let mut log = OpenedLog::new(alloc);
+    let mut log = OpenedLog::new(alloc, wire.len());
     for at in 0..wire.len() {
         let said = match opening.read(alloc, keys, &wire[at]) {
             Ok(said) => said,

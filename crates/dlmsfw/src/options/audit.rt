@@ -72,6 +72,9 @@ Standard output gets these lines:
       beside a store
   cut PATH N bytes
       a power cut left them at the end of this capture; they are left out
+  passed PATH N datagrams
+      of what came in this sealed capture so many say nothing: they don't open,
+      or came again
   meter N ok D datagrams S starts
       the capture and the store of this meter fit
   activated N HEAD SERIAL RELEASE SHA256

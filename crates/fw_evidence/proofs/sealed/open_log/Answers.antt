@@ -1,4 +1,4 @@
-use Rattle.std.proofs.Common.{subst, sym, arith}
+use Rattle.std.proofs.Common.{◌∙◌, subst, sym, arith}
 use Rattle.fw_audit.specs.Log.{log_of}
 use Rattle.fw_evidence.specs.Private.{IsUnopened}
 use Rattle.fw_evidence.specs.Sealed.{items_in, marks_in}
@@ -27,6 +27,7 @@ loop-at-preserved g c =
           (items_in c.loop-at.log) (items_in c.add.new.self) _ (marks_in c.loop-at.log) (marks_in c.add.new.self)
           (omega (arith, c.loop-at-test.true)) (omega (arith, c.loop-at-test.true, c.requires)) so_far.opens c.in-Ok-read.ensures.says
           c.in-Ok-add.ensures.items c.in-Ok-add.ensures.marks;
+      count = c.in-Ok-add.ensures.count ∙ so_far.count;
     }
 
 pub returns-clause-opened : goal.returns-clause-opened

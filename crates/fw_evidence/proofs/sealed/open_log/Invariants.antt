@@ -1,4 +1,4 @@
-use Rattle.std.proofs.Common.{take}
+use Rattle.std.proofs.Common.{◌≡◌, length, take}
 use Rattle.fw_audit.specs.Log.{log_of}
 use Rattle.fw_evidence.specs.Sealed.{Begins, Opens, items_in, marks_in}
 use Rattle.fw_evidence.specs.declared.unsealing.Opening.{Opening}
@@ -10,4 +10,5 @@ invariant-loop-at g l = record {
   first : Opening;
   begins : Begins (g.K.EndKeys.hears l.keys) (g.K.EndKeys.seals l.keys) first;
   opens : Opens (g.K.EndKeys.hears l.keys) first (log_of (take l.at l.wire)) (take l.at l.marks) (items_in l.log) (marks_in l.log) l.opening;
+  count : l.log.count ≡ length l.wire;
 }
