@@ -56,9 +56,9 @@ number, and its key file, as of `head --keys`. A meter that such a file has a
 link with is one with keys, and any other has none. What came to it and doesn't
 open, or came again, it passed over. With --strict these meters ran with it too.
 Captures of head ends aren't opened, so --keys isn't taken with --head-log.
-Without --keys a sealed capture doesn't fit.
-While a meter verifies it takes a turn where it passes something over: captures
-of earlier releases have no note of that, and may not fit though all is well.
+Without --keys a sealed capture doesn't fit. While a meter verifies it takes a
+turn where it passes something over: captures of earlier releases have no note
+of that, and may not fit though all is well.
 
 Meters of one process, as with --count, have one capture: each has a line with
 it. What a power cut left of a last packet is left out, as the meter cuts it off
