@@ -2,11 +2,14 @@
 
 import hashlib
 import json
+import signal
 import socket
 import struct
 
 from common import HOST, Head, Members, Meter, bound, listed, name_of, received, wants
 from ends import GET_STATUS, STATUS, HeadEnd, action, opening, transfer, with_invoke_byte
+from sealing import HEAD_TITLE, KEYS, METER_TITLE, OTHER_KEYS, head_keys, meter_keys, secret
+from suite0 import opened, sealed
 
 ROOM = ["--block-size", "1024", "--capacity", "8192"]
 IMAGE = bytes(range(256)) * 8
@@ -38,10 +41,10 @@ def records_of(capture):
     return places
 
 
-def audited(place, at, capture, store):
+def audited(place, at, capture, store, *words):
     """The status of an audit, its lines that are none of files, and those of standard error."""
     (place.folder / "audited.csv").write_text(f"1,{at},{capture},{store}\n")
-    status, out, said = place.run("audit", "--audited", "audited.csv", *ROOM)
+    status, out, said = place.run("audit", "--audited", "audited.csv", *ROOM, *words)
     return status, [line for line in out.splitlines() if not line.startswith("audited ")], said
 
 
@@ -175,6 +178,122 @@ def a_bad_line_of_an_audit_is_told(place):
         wants(got == (1, "", ["dlmsfw: BadList 4", f"--audited audited.csv: {why}"]), f"at {line!r} it ends with {got}")
 
 
+# ---- meters with keys
+
+
+def led_with_keys(place):
+    """A meter with keys that gets an image, each request twice. It is stopped until its verify, what doesn't open and a GET of the status wait for
+    it: the turn that it takes in the middle ends the verification. Then a request comes that another one overtook. It is killed after the
+    activate, started again, and asked with a counter that it had before. Its address, and that of its head end."""
+    folder, image, head = place.folder, IMAGE * 4, bound()
+    keys, titles = tuple(map(bytes.fromhex, KEYS)), (bytes.fromhex(HEAD_TITLE), bytes.fromhex(METER_TITLE))
+    words = [*ROOM, "--capture", folder / "m.pcap", "--keys", meter_keys(folder, head.getsockname())]
+
+    def send(meter, counter, line, keys=keys):
+        head.sendto(sealed(keys, titles[0], counter, bytes.fromhex(line)[8:]), meter.address)
+
+    def wants_status(status):
+        reply = opened(keys, titles[1], bytes.fromhex(received(head)[0]))
+        wants(reply == bytes.fromhex(STATUS % status)[8:], f"the reply to a GET of the status is {reply}")
+
+    with Meter(folder / "m.fw", *words, "--new-counter").killed() as meter:
+        for counter, line in enumerate(transfer(image)):
+            send(meter, counter, line)
+            send(meter, counter, line)
+            received(head)
+        meter.process.send_signal(signal.SIGSTOP)
+        send(meter, 20, action(3, "0f00"))
+        send(meter, 21, GET_STATUS, (bytes(16), bytes(16)))
+        send(meter, 22, GET_STATUS)
+        meter.process.send_signal(signal.SIGCONT)
+        received(head)
+        wants_status(3)
+        for counter in (31, 30):
+            send(meter, counter, GET_STATUS)
+            wants_status(3)
+        send(meter, 40, action(4, "0f00"))
+        received(head)
+    with Meter(folder / "m.fw", *words, listen=name_of(meter.address)).killed() as meter:
+        send(meter, 0, GET_STATUS)
+        received(head)
+    return name_of(meter.address), name_of(head.getsockname())
+
+
+# To be seen: a meter with keys that has no note of the turn that it takes where what came doesn't open; an audit that takes that, or what came
+# again, for a request, or what came after a start for what came before; or that doesn't tell how much says nothing.
+def what_a_meter_with_keys_did_fits(place):
+    """A meter with keys fits by the key file of its head end, with all that it took."""
+    at, head = led_with_keys(place)
+    capture, digest = place.folder / "m.pcap", hashlib.sha256(IMAGE * 4).hexdigest()
+    turns = capture.read_bytes().count(b"dlmsfw turn ")
+    wants(turns == 1, f"its capture has {turns} turns")
+    status, lines, said = audited(place, at, capture, place.folder / "m.fw", "--keys", f"{head},7,{head_keys(place.folder)}")
+    # Ten requests of the transfer, the verify, four GET and the activate were taken, and each has its reply. Ten came again, and one didn't open.
+    wanted = [f"passed {capture} 11 datagrams", "meter 1 ok 32 datagrams 2 starts", f"activated 1 7 1 0 {digest}", "ok"]
+    wants((status, lines, said) == (0, wanted, []), f"it ends with {status}, {lines} and {said}")
+    _, lines, _ = audited(place, at, capture, place.folder / "m.fw", "--keys", f"{head},7,{place.folder}/head.keys", "--report", "json")
+    told = [it for it in map(json.loads, lines) if "passed" in it]
+    wants(told == [{"datagrams": 11, "passed": str(capture)}], f"as JSON it tells {told}")
+
+
+# To be seen: an audit that passes what a meter with keys didn't seal, or a counter that it used before; that opens with other keys, another title
+# or another address, or what was overtaken though the meter was strict; that takes a meter without a link for one with keys.
+def what_a_meter_with_keys_did_not_departs(place):
+    """What a meter with keys didn't seal departs where it stands, and with another key, number or address, or none, its first reply does."""
+    at, head = led_with_keys(place)
+    folder, capture, changed = place.folder, place.folder / "m.pcap", place.folder / "changed.pcap"
+    whole, places = capture.read_bytes(), records_of(capture)
+    own, other = (f"{head},7,{file}" for file in (head_keys(folder), head_keys(folder, OTHER_KEYS, "other.keys")))
+    secret(folder / "another.keys", f"2,{METER_TITLE},{','.join(KEYS)}\n")
+
+    def departs(rule, number, keys, *words, data=whole):
+        changed.write_bytes(data)
+        status, lines, said = audited(place, at, changed, folder / "m.fw", *(["--keys", keys] if keys else []), *words)
+        told = [it.split(":")[0] for it in lines if it.startswith("departs ")]
+        wanted = [f"departs {rule} {changed} {number} {records_of(changed)[number]} meter 1", "departs 1"]
+        wants((status, told, said) == (1, wanted, []), f"{wanted} are wanted: it ends with {status}, {lines} and {said}")
+
+    # The records are the start, the first request, its reply, the request once more, ..; and last the reply to the one that was overtaken, the
+    # activate and its reply, the second start, a request and its reply.
+    for rule, keys in (("NothingOwed", None), ("NothingOwed", f"{head},7,{folder}/another.keys"), ("NotSealed", other),
+                       ("NothingOwed", f"{head},8,{folder}/head.keys"), ("NoKey", f"{HOST}:9,7,{folder}/head.keys")):
+        departs(rule, 2, keys)
+    departs("NothingOwed", len(places) - 7, own, "--strict")
+    turned = bytearray(whole)
+    turned[places[3] - 1] ^= 1
+    departs("NotSealed", 2, own, data=turned)
+    departs("CounterUsed", 3, own, data=whole[:places[3]] + whole[places[2]:])
+    departs("CounterUsed", len(places) - 1, own, data=whole + whole[places[2]:places[3]])
+    changed.write_bytes(whole[:-1])
+    for keys in (own, other):
+        _, lines, _ = audited(place, at, changed, folder / "m.fw", "--keys", keys)
+        wants(lines[0] == f"cut {changed} {len(whole) - 1 - places[-2]} bytes", f"of an end that is cut off it says {lines}")
+
+
+# To be seen: a value that is taken though it is no head end with its keys; keys that are taken with captures of head ends; a key file that is none
+# and has no name of a fault, or is told without its path.
+def what_are_no_keys_of_an_audit_is_refused(place):
+    """A value of --keys that is no address, number and path is a wrong command line, as keys with head ends are, and what is no key file a fault."""
+    (place.folder / "audited.csv").write_text("")
+    (place.folder / "head.book").write_bytes(NO_RECORD)
+    right, run = f"--keys={HOST}:1,7,head.keys", ("audit", "--audited", "audited.csv")
+    for text in ("", "head.keys", f"{HOST}:1", f"{HOST}:1,7", f"{HOST},7,a", f"{HOST}:65536,7,a", f"{HOST}:1,0,a", f"{HOST}:1,x,a",
+                 f"{HOST}:1,4294967296,a", f"{HOST}:1,7,", f"{HOST}:1,7,a,b"):
+        status, out, said = place.run(*run, f"--keys={text}")
+        wants((status, out) == (2, "") and said[0].startswith("error: "), f"{text!r} ends with {status}, {out} and {said}")
+    for words in (["--strict"], [right, "--head-log", f"{HOST}:1,a.pcap,head.book"]):
+        status, out, said = place.run(*run, *words)
+        wants((status, out) == (2, "") and said[0].startswith("error: "), f"{words} ends with {status}, {out} and {said}")
+    got = place.run(*run, right)
+    wants(got == (1, "", ["dlmsfw: KeysFault", "head.keys: there is no such file or folder"]), f"without the file it ends with {got}")
+    keys = secret(place.folder / "head.keys", f"1,{METER_TITLE},{','.join(KEYS)},\n")
+    got = place.run(*run, right)
+    wants(got == (1, "", ["dlmsfw: BadKeys 1 BadFields", "head.keys"]), f"with a line that is none it ends with {got}")
+    keys.chmod(0o644)
+    got = place.run(*run, right)
+    wants(got == (1, "", ["dlmsfw: KeysReadable", "head.keys"]), f"with a file for all it ends with {got}")
+
+
 # ---- head ends
 
 
@@ -300,6 +419,9 @@ STEPS = [
     what_departs_names_its_meter,
     rows_and_switches_are_borne_out,
     a_bad_line_of_an_audit_is_told,
+    what_a_meter_with_keys_did_fits,
+    what_a_meter_with_keys_did_not_departs,
+    what_are_no_keys_of_an_audit_is_refused,
     what_a_head_end_did_fits,
     what_a_head_end_did_not_departs,
     what_is_no_head_end_is_refused,

@@ -11,7 +11,7 @@ use Rattle.dlmsfw.specs.declared.audit_places.AuditPlace.TheVariants as place
 use Rattle.dlmsfw.specs.declared.refusal.Refusal.{Refusal}
 use Rattle.dlmsfw.specs.declared.refusal.Refusal.TheVariants.{Line}
 
--- the option with its value, or the path of a file of a meter or of a book
+-- the option with its value, or the path of a file of a meter or of a head end
 abbrev pub audit_place_text : AuditPlace → List ℕ
 audit_place_text (place.List file) = codes "--audited " ++ file.now
 audit_place_text (place.File file) = file.now

@@ -14,7 +14,7 @@ use std::fmt;
 pub(crate) enum AuditPlace<'a> {
     /// The list of what is audited.
     List(&'a str),
-    /// A file of a meter or of a book.
+    /// A file of a meter or of a head end.
     File(&'a str),
 }
 

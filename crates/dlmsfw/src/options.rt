@@ -91,6 +91,8 @@ enum WrongValue<'a> {
     NoThreshold { option: &'static str, text: &'a str },
     /// The value of this option is no head end with its files.
     NoHeadLog { option: &'static str, text: &'a str },
+    /// The value of this option is no head end with its key file.
+    NoKeyFile { option: &'static str, text: &'a str },
     /// The value of this option names no meters.
     NoMeters { option: &'static str, text: &'a str },
     /// Memory was refused.
@@ -134,6 +136,9 @@ impl WrongValue<'_> {
             ),
             WrongValue::NoHeadLog { option, text } => format!(in alloc;
                 "invalid value '{text}' for '--{option} <ADDR,CAPTURE,BOOK>': it is no address with a port and two paths, with commas between them, as 127.0.0.1:4058,head.pcap,head.book"
+            ),
+            WrongValue::NoKeyFile { option, text } => format!(in alloc;
+                "invalid value '{text}' for '--{option} <ADDR,N,KEYS>': it is no address with a port, number of a head end and path, with commas between them, as 127.0.0.1:4058,7,head.keys"
             ),
             WrongValue::NoMeters { option, text } => format!(in alloc;
                 "invalid value '{text}' for '--{option} <METERS>': it is no list of numbers and ranges of them, as 7,9-12, each a number from 0 to 4294967295"
@@ -321,12 +326,17 @@ fn sealing_of<'a>(given: &ArgMatches<'a>) -> Option<SealingOptions<'a>> {
     Some(SealingOptions {
         keys: given.get_str("keys")?,
         makes_counter: given.get_flag("new-counter"),
-        order: if given.get_flag("strict") {
-            Order::Strict
-        } else {
-            Order::Loose
-        },
+        order: order_of(given),
     })
+}
+
+/// The order in which the counters of what comes are taken.
+fn order_of(given: &ArgMatches<'_>) -> Order {
+    if given.get_flag("strict") {
+        Order::Strict
+    } else {
+        Order::Loose
+    }
 }
 
 /// Where the capture of a run goes.

@@ -10,7 +10,6 @@ use Rattle.std.proofs.lemmas.Result.{IfOk-weaker}
 use Rattle.fw_audit.specs.Log.{log_of}
 use Rattle.fw_audit.specs.Stands.{IsMeterLog}
 use Rattle.fw_book.specs.Contents.{Contents}
-use Rattle.fw_evidence.specs.Captures.{IsLogOf}
 use Rattle.fw_evidence.specs.Stores.{IsAtRest}
 use Rattle.fw_evidence.specs.declared.error.Mark.{Mark}
 use Rattle.fw_evidence.specs.declared.error.StoreRefusal.{StoreRefusal}
@@ -23,6 +22,7 @@ use Rattle.fw_head_audit.specs.declared.meter.AskedMeter.{AskedMeter}
 use Rattle.fw_image.specs.Meter.{Image, Meter, reopened}
 use Rattle.fw_image.specs.State.{State}
 use Rattle.fw_order.specs.Order.{End, HasOrder}
+use Rattle.fw_auditor.specs.Keyed.{IsKeyFileOf, IsLogBy}
 use Rattle.fw_auditor.specs.Fitting.{AllFit, AreHeadsTold, Began, IsHeadTold, IsTold, IsWholePart, Sited, asked_in, asked_with, end_at, told_in}
 use Rattle.fw_auditor.specs.Private.{AreCompared, AreFound, BeginsAs, Counts, CountsEnd, CountsFound, CountsKept, FieldFits, Fit, FitsAs, FitsWith, FleetFits, HasFit, Holds, IsCompared, IsFound, IsFoundSomehow, IsSiteOf, asked_at, beside, end_with, ends_in, undo_in}
 use Rattle.fw_auditor.specs.declared.audit.Tally.{Tally}
@@ -45,7 +45,8 @@ holds_by files undo r same all =
     (λ m is. subst (λ (u : List ℕ). IsAtRest files.store.items u m.meter) (sym same) is) all
 
 pub fits_by : (given : Given) (subject : Subject) (begin : Meter) (capture : List ℕ) (end : Meter) (log : Log) (marks : List Mark) (images : List Image) (site : Site) (whole : List ℕ) (v : Verdict)
-    → IsSiteOf given subject site → IsWholePart capture whole → IsLogOf site whole (log_of log.items.items) marks
+    → IsSiteOf given subject site → IsWholePart capture whole
+    → IsLogBy given.options.now.order given.keys.items subject.meter site whole (log_of log.items.items) marks
     → IsMeterLog given.options.now.heads.items (reopened begin) (log_of log.items.items) images end
     → IsCompared given subject log images v → HasFit given subject begin capture end v
 fits_by given subject begin capture end log marks images site whole (Fits audited held) own part reads is compared =
@@ -172,7 +173,7 @@ sited_of given subject audited end fits = record {
 }
 
 is_told : (given : Given) (subject : Subject) (audited : Audited) (end : End) (fits : FitsWith given subject audited end)
-    → IsTold given.options.now given.factory.items (sited_of given subject audited end fits)
+    → IsTold given.options.now given.factory.items given.keys.items (sited_of given subject audited end fits)
 is_told given subject audited end fits = record {
   asked = refl;
   site = fits.found.fit.site;
@@ -194,7 +195,7 @@ is_told given subject audited end fits = record {
 -- what the files tell of meters, each of which fits
 record Tells (given : Given) (subjects : List Subject) (meters : List Audited) (ends : List End) : Type 0 where
   told : List Sited
-  each : All (IsTold given.options.now given.factory.items) told
+  each : All (IsTold given.options.now given.factory.items given.keys.items) told
   same : map audited_in (told_in told) ≡ meters
   ends_are : map end_at told ≡ ends
   asked : asked_in told ≡ map asked_at subjects
@@ -206,7 +207,7 @@ same_end end = refl
 all_told : (given : Given) (subjects : List Subject) (meters : List Audited) (ends : List End) → AreFound given subjects meters ends → Tells given subjects meters ends
 all_told given [] [] [] are = record {
   told = [];
-  each = All-nil (IsTold given.options.now given.factory.items);
+  each = All-nil (IsTold given.options.now given.factory.items given.keys.items);
   same = refl;
   ends_are = refl;
   asked = refl;
@@ -222,7 +223,7 @@ all_told given (s ∷ ss) (m ∷ ms) (e ∷ es) are =
     let t = sited_of given s m e fits in
     record {
       told = t ∷ rest.told;
-      each = All-cons (IsTold given.options.now given.factory.items) t rest.told (is_told given s m e fits) rest.each;
+      each = All-cons (IsTold given.options.now given.factory.items given.keys.items) t rest.told (is_told given s m e fits) rest.each;
       same = ap (λ (a : Audited). a ∷ map audited_in (told_in rest.told)) (sym fits.found.fit.named) ∙ ap (λ (l : List Audited). m ∷ l) rest.same;
       ends_are = ap (λ (x : End). x ∷ map end_at rest.told) (same_end e) ∙ ap (λ (l : List End). e ∷ l) rest.ends_are;
       asked = ap (λ (a : SocketAddr). asked_with s.meter a ∷ asked_in rest.told) fits.own ∙ ap (λ (l : List AskedMeter). asked_at s ∷ l) rest.asked;
@@ -245,20 +246,25 @@ offered given images some (inr are) = are
 abbrev HaveHeads : Given → List Sited → Type 0
 HaveHeads given told = 0 < vec_len given.options.now.head_logs → AreHeadsTold given.options.now told given.books.books.items
 
-all_fit : HeadlineByLooking → (given : Given) (meters : List Audited) (ends : List End) (it : Tells given given.subjects.items meters ends)
+abbrev AreKeys : Given → Type 0
+AreKeys given = AllZip IsKeyFileOf given.options.now.keys.items given.keys.items
+
+all_fit : HeadlineByLooking → (given : Given) → AreKeys given → (meters : List Audited) (ends : List End) (it : Tells given given.subjects.items meters ends)
     → All (λ (book : Contents). AreBorneOut book meters) given.books.books.items → HaveHeads given it.told → AllFit given.options.now
-all_fit law given meters ends it borne heads =
+all_fit law given keys meters ends it borne heads =
     let books = given.books.books.items in
     let rows = subst (λ (ms : List Audited). All (λ (book : Contents). AreBorneOut book ms) books) (sym it.same) borne in
     record {
       factory = given.factory.items;
+      keys = given.keys.items;
+      keys_are = keys;
       told = it.told;
       each = it.each;
       books = books;
       rows = rows;
       headline = λ some. law books (told_in it.told) (record {
         logs = All-map (λ (t : Told). IsMeterLog t.heads t.begin t.log t.images t.end) (λ (s : Sited). s.told) it.told
-            (All-weaker (IsTold given.options.now given.factory.items) (λ (s : Sited). IsMeterLog s.told.heads s.told.begin s.told.log s.told.images s.told.end) (λ s is. is.is) it.told it.each);
+            (All-weaker (IsTold given.options.now given.factory.items given.keys.items) (λ (s : Sited). IsMeterLog s.told.heads s.told.begin s.told.log s.told.images s.told.end) (λ s is. is.is) it.told it.each);
         switches = All-map (λ (t : Told). AreOffered books t.images) (λ (s : Sited). s.told) it.told
             (All-weaker (λ (s : Sited). AreCompared given s.told.images) (λ (s : Sited). AreOffered books s.told.images) (λ s is. offered given s.told.images some is) it.told it.compared);
         rows = rows;
@@ -266,18 +272,18 @@ all_fit law given meters ends it borne heads =
       heads = heads;
     }
 
-pub fleet_fits : HeadlineByLooking → (given : Given) → vec_len given.options.now.head_logs ≡ 0 → FleetFits given → AllFit given.options.now
-fleet_fits law given none fleet =
+pub fleet_fits : HeadlineByLooking → (given : Given) → AreKeys given → vec_len given.options.now.head_logs ≡ 0 → FleetFits given → AllFit given.options.now
+fleet_fits law given keys none fleet =
     let with_ends = some_ends given given.subjects.items fleet.meters fleet.each in
-    all_fit law given fleet.meters with_ends.0 (all_told given given.subjects.items fleet.meters with_ends.0 with_ends.1) fleet.rows
+    all_fit law given keys fleet.meters with_ends.0 (all_told given given.subjects.items fleet.meters with_ends.0 with_ends.1) fleet.rows
     (λ some. absurd (omega (arith, some, none)))
 
-pub field_fits : HeadlineByLooking → (given : Given) → FieldFits given → AllFit given.options.now
-field_fits law given field =
+pub field_fits : HeadlineByLooking → (given : Given) → AreKeys given → FieldFits given → AllFit given.options.now
+field_fits law given keys field =
     let it = all_told given given.subjects.items field.meters field.ends field.each in
     let logs = given.options.now.head_logs.items in
     let books = given.books.books.items in
-    all_fit law given field.meters field.ends it field.rows (λ some. record {
+    all_fit law given keys field.meters field.ends it field.rows (λ some. record {
       heads = field.heads;
       each = subst (λ (asked : List AskedMeter). AllZip (IsHeadTold asked books) logs field.heads) (sym it.asked) field.told;
       order = subst (λ (es : List End). HasOrder (es ++ field.heads)) (sym it.ends_are) field.order;

@@ -1,2 +1,4 @@
 mod Fitted
+mod Sockets
+mod Keyed
 mod Ending

@@ -6,7 +6,6 @@ use Rattle.std.specs.declared.net.socket_addr.SocketAddr.{SocketAddr}
 use Rattle.fw_audit.specs.Stands.{IsMeterLog}
 use Rattle.fw_book.specs.Contents.{Contents}
 use Rattle.fw_capture.specs.Whole.{IsWholeTo}
-use Rattle.fw_evidence.specs.Captures.{IsLogOf}
 use Rattle.fw_evidence.specs.Heads.{IsHeadLogOf}
 use Rattle.fw_evidence.specs.Stores.{IsAtRest}
 use Rattle.fw_evidence.specs.declared.error.Mark.{Mark}
@@ -19,6 +18,8 @@ use Rattle.fw_image.specs.Fresh.{fresh_meter}
 use Rattle.fw_image.specs.Meter.{Meter, reopened}
 use Rattle.fw_order.specs.Order.{End, HasOrder}
 use Rattle.fw_store.specs.declared.version.HeaderVersion.TheVariants.{Two}
+use Rattle.fw_auditor.specs.Keyed.{IsKeyFileOf, IsLogBy}
+use Rattle.fw_auditor.specs.declared.keys.KeyedHead.{KeyedHead}
 use Rattle.fw_auditor.specs.declared.options.AuditOptions.{AuditOptions}
 use Rattle.fw_auditor.specs.declared.options.FreshMeter.{FreshMeter}
 use Rattle.fw_auditor.specs.declared.options.HeadLog.{HeadLog}
@@ -46,7 +47,7 @@ abbrev pub told_in : List Sited → List Told
 told_in sited = map (λ (s : Sited). s.told) sited
 
 -- What is told of a meter some files bear out: a capture is its log, from where it began, and a store holds what it is in the end.
-pub record IsTold (options : AuditOptions) (factory : List ℕ) (s : Sited) : Type 0 where
+pub record IsTold (options : AuditOptions) (factory : List ℕ) (keys : List KeyedHead) (s : Sited) : Type 0 where
   pub asked : s.told.heads ≡ options.heads.items
   pub site : Site
   pub own : site.at ≡ s.at
@@ -54,7 +55,7 @@ pub record IsTold (options : AuditOptions) (factory : List ℕ) (s : Sited) : Ty
   pub whole : List ℕ
   pub part : IsWholePart capture whole
   pub marks : List Mark
-  pub reads : IsLogOf site whole s.told.log marks
+  pub reads : IsLogBy options.order keys s.told.meter site whole s.told.log marks
   pub meter : Meter
   pub began : Began options.fresh factory meter
   pub first : s.told.begin ≡ reopened meter
@@ -102,8 +103,10 @@ pub record AreHeadsTold (options : AuditOptions) (told : List Sited) (books : Li
 -- tell.
 pub record AllFit (options : AuditOptions) : Type 0 where
   pub factory : List ℕ
+  pub keys : List KeyedHead
+  pub keys_are : AllZip IsKeyFileOf options.keys.items keys
   pub told : List Sited
-  pub each : All (IsTold options factory) told
+  pub each : All (IsTold options factory keys) told
   pub books : List Contents
   pub rows : All (λ (book : Contents). AreBorneOut book (map audited_in (told_in told))) books
   pub headline : 0 < vec_len options.books + vec_len options.head_logs → IsHeadline books (told_in told)

@@ -8,10 +8,11 @@ use Rattle.std.specs.declared.net.socket_addr.SocketAddr.{SocketAddr}
 use Rattle.fw_audit.specs.Log.{Item, log_of}
 use Rattle.fw_audit.specs.Stands.{IsMeterLog}
 use Rattle.fw_book.specs.Contents.{Contents}
-use Rattle.fw_evidence.specs.Captures.{IsLogOf}
+use Rattle.fw_evidence.specs.Sealed.{IsSealedLogOf, items_in, marks_in}
 use Rattle.fw_evidence.specs.Stores.{IsAtRest}
 use Rattle.fw_evidence.specs.declared.error.Mark.{Mark}
 use Rattle.fw_evidence.specs.declared.log.Log.{Log}
+use Rattle.fw_evidence.specs.declared.opened.OpenedLog.{OpenedLog}
 use Rattle.fw_evidence.specs.declared.site.Side.TheVariants as sides
 use Rattle.fw_evidence.specs.declared.site.Site.{Site}
 use Rattle.fw_fleet_audit.specs.Rows.{AreBorneOut, Audited, audited_of, names_of}
@@ -19,8 +20,13 @@ use Rattle.fw_fleet_audit.specs.Switches.{AreOffered}
 use Rattle.fw_head_audit.specs.Heads.{IsHeadLog}
 use Rattle.fw_head_audit.specs.declared.meter.AskedMeter.{AskedMeter}
 use Rattle.fw_image.specs.Meter.{Image, Meter, reopened}
+use Rattle.fw_keys.specs.Links.{Links as KeyLinks, ends_of}
+use Rattle.fw_keys.specs.declared.entry.Entry.{Entry}
 use Rattle.fw_order.specs.Order.{End, HasOrder}
+use Rattle.fw_seal.specs.Sealing.{Ends}
+use Rattle.fw_sealport.specs.declared.window.Order.TheVariants.{Strict}
 use Rattle.fw_auditor.specs.Fitting.{IsHeadTold, IsWholePart, asked_with, new_of}
+use Rattle.fw_auditor.specs.Keyed.{AreLinksBy, HasNoLink, IsLogBy, as_it_is, turned}
 use Rattle.fw_auditor.specs.declared.audit.Tally.{Tally}
 use Rattle.fw_auditor.specs.declared.ends.Ended.{Ended}
 use Rattle.fw_auditor.specs.declared.field.Meters.{Meters}
@@ -32,6 +38,8 @@ use Rattle.fw_auditor.specs.declared.heads.Heads.{Heads}
 use Rattle.fw_auditor.specs.declared.list.Subject.{Subject}
 use Rattle.fw_auditor.specs.declared.options.FreshMeter.{FreshMeter}
 use Rattle.fw_auditor.specs.declared.options.HeadLog.{HeadLog}
+use Rattle.fw_auditor.specs.declared.readings.Reading.{Reading}
+use Rattle.fw_auditor.specs.declared.readings.Reading.TheVariants as readings
 use Rattle.fw_auditor.specs.declared.verdict.Given.{Given}
 use Rattle.fw_auditor.specs.declared.verdict.Verdict.{Verdict}
 use Rattle.fw_auditor.specs.declared.verdict.Verdict.TheVariants.{Fits, NotOffered, Unfit}
@@ -69,6 +77,28 @@ pub record IsSiteOf (given : Given) (subject : Subject) (site : Site) : Type 0 w
   pub heads : site.heads.now ≡ given.options.now.heads.items
   pub others : site.others.now ≡ others_of given.subjects.items subject
 
+-- the link of a file with a meter, as one of its ends has it
+pub record IsLinkBy (view : Ends → Ends) (file : KeyLinks ℕ) (meter : ℕ) (link : Ends) : Type 0 where
+  pub entry : Entry ℕ
+  pub within : Contains file.entries entry
+  pub named : entry.end ≡ meter
+  pub is : link ≡ view (ends_of file.own entry.keys)
+
+-- a capture is this log of a meter in plain words, by the key files that are given
+pub record IsOpenedAs (given : Given) (subject : Subject) (capture : List ℕ) (log : OpenedLog) : Type 0 where
+  pub site : Site
+  pub whole : List ℕ
+  pub own : IsSiteOf given subject site
+  pub part : IsWholePart capture whole
+  pub reads : IsSealedLogOf (AreLinksBy turned given.options.now.order given.keys.items subject.meter)
+      (AreLinksBy as_it_is Strict given.keys.items subject.meter) site whole (items_in log) (marks_in log)
+
+-- what is read of a capture before it is audited: nothing, if no file has a link with its meter
+abbrev pub IsReadingOf : Given → Subject → List ℕ → Option Reading → Type 0
+IsReadingOf given subject capture None = HasNoLink given.keys.items subject.meter
+IsReadingOf given subject capture (Some (readings.Opened log)) = IsOpenedAs given subject capture log
+IsReadingOf given subject capture (Some (readings.Unopened error)) = Unit {0}
+
 -- if books are given, they offer each image that a meter switched to
 abbrev pub AreCompared : Given → List Image → Type 0
 AreCompared given images =
@@ -88,7 +118,7 @@ pub record Fit (given : Given) (subject : Subject) (begin : Meter) (capture : Li
   pub whole : List ℕ
   pub own : IsSiteOf given subject site
   pub part : IsWholePart capture whole
-  pub reads : IsLogOf site whole log marks
+  pub reads : IsLogBy given.options.now.order given.keys.items subject.meter site whole log marks
   pub is : IsMeterLog given.options.now.heads.items (reopened begin) log images end
   pub compared : AreCompared given images
   pub named : audited ≡ audited_of subject.meter (names_of images)

@@ -4,15 +4,18 @@ ghost use Rattle.std.specs.Prelude.{◌≡◌, [], false, IfOk, OnOk};
 ghost use Rattle.std.specs.List.{AllZip};
 ghost use Rattle.std.specs.Vec.{vec_len};
 ghost use Rattle.fw_auditor.specs.Fitting.{AllFit};
-ghost use Rattle.fw_auditor.specs.Private.{Counts, CountsFound, FitsAs, FleetFits, IsFoundSomehow};
+ghost use Rattle.fw_auditor.specs.Keyed.{IsKeyFileOf};
+ghost use Rattle.fw_auditor.specs.Private.{Counts, CountsFound, FitsAs, FleetFits, IsFoundSomehow, IsReadingOf};
 
 use crate::books::{books_in, tell_rows};
 use crate::error::Unaudited;
 use crate::field::tell_field;
 use crate::files::{AuditFault, FoundStores, StoreFiles, bytes_of, found_stores, journal_path};
+use crate::keys::keyed_heads;
 use crate::lines::{AuditForm, append_end, append_file, write_text};
 use crate::list::{Subject, subjects_in};
 use crate::options::AuditOptions;
+use crate::readings::{Reading, reading_of};
 use crate::verdict::{Given, Verdict, append_judged};
 use fw_fleet_audit::AuditedMeter;
 use std::alloc::{AllocError, Global};
@@ -86,6 +89,8 @@ impl Tally {
 /// head ends there follow the lines of each, and that of the order of all, or of where there is none. The last line says whether all fits. The
 /// lines of an end are flushed together.
 ///
+/// A meter with which a key file has a link is audited by what its capture says in plain words under the links of these files.
+///
 /// With head ends all captures are in memory at once, each file once, and else that of one meter.
 ///
 /// # Errors
@@ -96,6 +101,8 @@ impl Tally {
 /// - `ListFault`: the list can't be read, or is no text. `BadList`: this line is none of it.
 /// - `BookFault`: the file of a book can't be read. `BadBook`, `BadRecord`: it holds no book.
 /// - `CaptureFault`, `StoreFault`, `FactoryFault`: the file of a capture, of a store or of the factory image can't be read.
+/// - `KeysFault`, `KeysReadable`, `BadKeys`: a key file can't be read, others may read it, or this line is none of it; or there are both key files and
+///   head ends.
 /// - `BadSetup`: the options describe no meter.
 /// - `Output`: the writer failed. What it holds then is unspecified.
 /// - `OutOfMemory`.
@@ -112,11 +119,13 @@ pub fn run_audit<F: Files<File = File>, W: Write>(
     let subjects = subjects_in(alloc, &list)?;
     let factory = factory_of(rt, alloc, options.fresh.factory_file)?;
     let books = books_in(rt, alloc, writer, options)?;
+    let keys = keyed_heads(rt, alloc, &options.keys)?;
     let given = Given {
         options,
         subjects,
         factory,
         books,
+        keys,
     };
     let departed = tell_all(rt, alloc, writer, &given)?;
     tell_end(alloc, writer, options.report, departed)
@@ -129,6 +138,7 @@ fn tell_all<F: Files<File = File>, W: Write>(
     writer: &mut W,
     given: &Given<'_, '_>,
 ) -> Result<u64, AuditFault>
+    requires { AllZip IsKeyFileOf given.now.options.now.keys.items given.now.keys.items }
     ensures { IfOk result (λ departed. departed ≡ 0 → AllFit given.now.options.now) }
 {
     fw_fleet_audit::laws::headline_by_looking();
@@ -226,7 +236,8 @@ fn count_meter<F: Files<File = File>, W: Write>(
     ensures { OnOk result (CountsFound given.now subject.now tally.old tally.new) }
 {
     let capture = bytes_of(rt, alloc, subject.capture, Unaudited::CaptureFault)?;
-    let verdict = tell_meter(rt, alloc, writer, given, subject, &capture)?;
+    let reading = reading_of(alloc, given, subject, &capture)?;
+    let verdict = tell_meter(rt, alloc, writer, given, subject, &capture, &reading)?;
     tally.count(verdict)?;
     Ok(())
 }
@@ -239,7 +250,9 @@ pub(crate) fn tell_meter<'c, F: Files<File = File>, W: Write>(
     given: &Given<'_, '_>,
     subject: &Subject<'_>,
     capture: &'c [u8],
+    reading: &'c Option<Reading>,
 ) -> Result<Verdict<'c>, AuditFault>
+    requires { IsReadingOf given.now subject.now capture.now reading.now }
     ensures { IfOk result (IsFoundSomehow given.now subject.now capture.now) }
 {
     let stores = found_stores(rt, alloc, subject)?;
@@ -252,7 +265,7 @@ pub(crate) fn tell_meter<'c, F: Files<File = File>, W: Write>(
         capture,
         &stores,
     )?;
-    let verdict = append_judged(alloc, &mut text, given, subject, stores, capture)?;
+    let verdict = append_judged(alloc, &mut text, given, subject, stores, capture, reading)?;
     write_text(writer, text.as_str())?;
     Ok(verdict)
 }

@@ -4,6 +4,7 @@ ghost use Rattle.std.specs.Prelude.{◌≡◌};
 ghost use Rattle.fw_auditor.specs.Errors.{unaudited_book};
 
 use fw_kept::ReadingError;
+use fw_keys::BadLine;
 use std::fmt;
 use thiserror::Error;
 
@@ -62,6 +63,12 @@ pub enum Unaudited {
     StoreFault,
     /// The file of the factory image can't be read.
     FactoryFault,
+    /// A key file can't be read, is no regular file, or has more than 64 MiB. Or head ends are audited too, of which captures are read as plain.
+    KeysFault,
+    /// Others than its owner may read or write a key file.
+    KeysReadable,
+    /// The line of this number of a key file, counted from 1, is none of it, for this cause.
+    BadKeys(u64, BadLine),
     /// The options describe no meter.
     BadSetup,
     /// The writer failed.
@@ -76,6 +83,7 @@ impl fmt::Display for Unaudited {
             Unaudited::BadList(number, _) => write!(f, "BadList {number}"),
             Unaudited::BadBook(offset) => write!(f, "BadBook {offset}"),
             Unaudited::BadRecord(index) => write!(f, "BadRecord {index}"),
+            Unaudited::BadKeys(line, why) => write!(f, "BadKeys {line} {why}"),
             other => fmt::Debug::fmt(other, f),
         }
     }

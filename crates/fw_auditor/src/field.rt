@@ -1,7 +1,8 @@
 //! The audit of meters and of the head ends that asked them. All captures stay in memory until it is known whether they agree.
 
-ghost use Rattle.std.specs.Prelude.{◌≡◌, ◌++◌, [], ◌∷◌, IfOk, OnOk};
+ghost use Rattle.std.specs.Prelude.{◌≡◌, ◌++◌, [], ◌∷◌, ℕ, IfOk, IsTrue, None, OnOk};
 ghost use Rattle.fw_audit.specs.Log.{log_of};
+ghost use Rattle.fw_auditor.specs.Keyed.{HasNoLink};
 ghost use Rattle.fw_auditor.specs.Private.{AreFound, CountsEnd, CountsKept, FieldFits, end_with, ends_in};
 
 use crate::audit::tell_meter;
@@ -13,6 +14,7 @@ use crate::files::AuditFault;
 use crate::heads::tell_heads;
 use crate::lines::Whose;
 use crate::list::Subject;
+use crate::readings::Reading;
 use crate::verdict::{Given, Verdict, log_of_unfit};
 use fw_evidence::Log;
 use fw_fleet_audit::AuditedMeter;
@@ -115,8 +117,12 @@ pub(crate) fn tell_field<F: Files<File = File>, W: Write>(
     ensures { IfOk result (λ departed. departed ≡ 0 → FieldFits given.now) }
 {
     let form = given.options.report;
+    if !has_no_keys(given) {
+        return Err(AuditFault::from(Unaudited::KeysFault));
+    }
     let captures = captures_in(rt, alloc, given)?;
-    let found = tell_meters(rt, alloc, writer, given, &given.subjects, &captures)?;
+    let plain = None;
+    let found = tell_meters(rt, alloc, writer, given, &given.subjects, &captures, &plain)?;
     let rows = tell_rows(
         alloc,
         writer,
@@ -130,6 +136,13 @@ pub(crate) fn tell_field<F: Files<File = File>, W: Write>(
     let of_books = both(found.departed, rows);
     let of_ends = both(heads.departed, departed_with(0, agree));
     Ok(both(of_books, of_ends))
+}
+
+/// Whether no key file is given.
+fn has_no_keys(given: &Given<'_, '_>) -> bool
+    ensures { IsTrue result → (meter : ℕ) → HasNoLink given.now.keys.items meter }
+{
+    given.keys.is_empty()
 }
 
 /// How many departed of both.
@@ -148,7 +161,10 @@ fn tell_meters<'c, F: Files<File = File>, W: Write>(
     given: &Given<'_, '_>,
     subjects: &[Subject<'c>],
     captures: &'c Captures<'_>,
+    plain: &'c Option<Reading>,
 ) -> Result<Meters<'c>, AuditFault>
+    requires keys { (meter : ℕ) → HasNoLink given.now.keys.items meter }
+    requires plain { plain.now ≡ None }
     ensures { IfOk result (λ found. found.departed ≡ 0 → AreFound given.now subjects.now found.audited.items (ends_in found.ends.items)) }
 {
     let mut found = Meters::new(alloc);
@@ -160,6 +176,7 @@ fn tell_meters<'c, F: Files<File = File>, W: Write>(
             given,
             &subjects[at],
             captures,
+            plain,
             &mut found,
         )?;
     }
@@ -174,14 +191,17 @@ fn count_meter<'c, F: Files<File = File>, W: Write>(
     given: &Given<'_, '_>,
     subject: &Subject<'c>,
     captures: &'c Captures<'_>,
+    plain: &'c Option<Reading>,
     found: &mut Meters<'c>,
 ) -> Result<(), AuditFault>
+    requires keys { (meter : ℕ) → HasNoLink given.now.keys.items meter }
+    requires plain { plain.now ≡ None }
     ensures { OnOk result (CountsKept given.now subject.now found.old found.new) }
 {
     let Some(capture) = captures.at_path(subject.capture) else {
         return Err(AuditFault::from(Unaudited::CaptureFault));
     };
-    let verdict = tell_meter(rt, alloc, writer, given, subject, capture)?;
+    let verdict = tell_meter(rt, alloc, writer, given, subject, capture, plain)?;
     found.count(alloc, given, subject, capture, verdict)?;
     Ok(())
 }

@@ -9,13 +9,15 @@ mod error;
 mod field;
 mod files;
 mod heads;
+mod keys;
 mod lines;
 mod list;
 mod options;
+mod readings;
 mod verdict;
 
 pub use audit::{AuditEnd, run_audit};
 pub use error::{LineCause, Unaudited};
 pub use files::AuditFault;
 pub use lines::AuditForm;
-pub use options::{AuditOptions, FreshMeter, HeadLog};
+pub use options::{AuditOptions, FreshMeter, HeadLog, KeyOption};

@@ -8,6 +8,7 @@ use fw_fleet_audit::{RowRule, SwitchRule};
 use fw_names::{CampaignId, HeadId, ImageName, MeterId, digest_of};
 use fw_order::OrderRule;
 use fw_rows::head_number;
+use fw_sealport::Unopened;
 use serde_json::{Value, json};
 use std::alloc::{AllocError, Global};
 use std::io::Write;
@@ -77,6 +78,23 @@ pub(crate) fn append_cut(
         AuditForm::Lines => write!(text, "cut {path} {count} bytes\n"),
         AuditForm::Json => {
             let value = json!(in alloc; {"bytes": count, "cut": path})?;
+            append_object(alloc, text, &value)
+        }
+    }
+}
+
+/// Appends the line of a sealed capture of which so many datagrams were passed over.
+pub(crate) fn append_passed(
+    alloc: Global,
+    text: &mut String,
+    form: AuditForm,
+    path: &str,
+    count: usize,
+) -> Result<(), AllocError> {
+    match form {
+        AuditForm::Lines => write!(text, "passed {path} {count} datagrams\n"),
+        AuditForm::Json => {
+            let value = json!(in alloc; {"datagrams": count, "passed": path})?;
             append_object(alloc, text, &value)
         }
     }
@@ -436,6 +454,24 @@ pub(crate) fn stray_why(rule: Stray) -> &'static str {
         Stray::OtherHeads => "others could ask the meter than the addresses of --head",
         Stray::StartedAsMeter => "meters started, and no head end",
         Stray::NoteOfMeter => "a note of a meter, and none of a head end",
+    }
+}
+
+/// The name of why a meter didn't seal what it sent.
+pub(crate) fn unsealed_name(why: Unopened) -> &'static str {
+    match why {
+        Unopened::Stranger => "NoKey",
+        Unopened::Repeated => "CounterUsed",
+        Unopened::NotSealed | Unopened::OutOfMemory => "NotSealed",
+    }
+}
+
+/// Why it is so.
+pub(crate) fn unsealed_why(why: Unopened) -> &'static str {
+    match why {
+        Unopened::Stranger => "no key file has a link with the end that this goes to",
+        Unopened::Repeated => "its counter isn't above those of what was sent there before",
+        Unopened::NotSealed | Unopened::OutOfMemory => "the meter didn't seal it under its keys",
     }
 }
 

@@ -2,6 +2,8 @@
 
 use crate::lines::AuditForm;
 use crate::list::{address_of, path_in};
+use fw_names::HeadId;
+use fw_sealport::Order;
 use std::net::SocketAddr;
 
 /// The options of the command.
@@ -15,6 +17,10 @@ pub struct AuditOptions<'a> {
     pub head_logs: Vec<HeadLog<'a>>,
     /// The addresses that may ask each meter, and any if none is given.
     pub heads: Vec<SocketAddr>,
+    /// The key files of head ends whose links with meters are sealed.
+    pub keys: Vec<KeyOption<'a>>,
+    /// The order in which meters took the counters of what came on these.
+    pub order: Order,
     /// What meters that began new were made with.
     pub fresh: FreshMeter<'a>,
     /// The form of what is printed.
@@ -30,6 +36,30 @@ pub struct FreshMeter<'a> {
     pub capacity: u32,
     /// The path of the file whose bytes are the image that it ran. Without one it ran `abc`.
     pub factory_file: Option<&'a str>,
+}
+
+/// The key file of a head end.
+#[derive(Clone, Copy)]
+pub struct KeyOption<'a> {
+    /// The address of the head end, as captures of meters have it.
+    pub address: SocketAddr,
+    /// Its number.
+    pub head: HeadId,
+    /// The path of the file.
+    pub path: &'a str,
+}
+
+impl<'a> KeyOption<'a> {
+    /// The key file of a text: the address of the head end, its number and the path, with commas between them and none in the path.
+    pub fn from_text(text: &'a str) -> Option<KeyOption<'a>> {
+        let (address, rest) = text.split_once(',')?;
+        let (number, path) = rest.split_once(',')?;
+        Some(KeyOption {
+            address: address_of(address).ok()?,
+            head: HeadId::new(number.parse::<u32>().ok()?)?,
+            path: path_in(path).ok()?,
+        })
+    }
 }
 
 /// A head end that is audited.

@@ -3,22 +3,26 @@
 ghost use Rattle.std.specs.Prelude.{◌≡◌, ◌+◌, ◌++◌, IfOk, IsTrue, OnOk, option_to_list};
 ghost use Rattle.std.specs.Vec.{vec_len};
 ghost use Rattle.fw_auditor.specs.Fitting.{IsWholePart};
-ghost use Rattle.fw_auditor.specs.Private.{AreCompared, BeginsAs, HasFit, Holds, IsCompared, IsFound, beside, others_of};
+ghost use Rattle.fw_auditor.specs.Keyed.{HasNoLink};
+ghost use Rattle.fw_auditor.specs.Private.{AreCompared, BeginsAs, HasFit, Holds, IsCompared, IsFound, IsOpenedAs, IsReadingOf, beside, others_of};
 
 use crate::books::Books;
 use crate::error::Unaudited;
 use crate::files::{AuditFault, FoundStores, StoreFiles};
+use crate::keys::KeyedHead;
 use crate::lines::{
-    AuditForm, Whose, append_cut, append_fault, append_fits, append_misfit, append_record,
-    append_switch, rule_name, rule_why, stray_name, stray_why,
+    AuditForm, Whose, append_cut, append_fault, append_fits, append_misfit, append_passed,
+    append_record, append_switch, rule_name, rule_why, stray_name, stray_why, unsealed_name,
+    unsealed_why,
 };
 use crate::list::Subject;
 use crate::options::{AuditOptions, FreshMeter};
+use crate::readings::Reading;
 use fw_audit::Switched;
 use fw_capture::whole_len;
 use fw_evidence::{
-    Audited, EvidenceError, Log, LogError, Side, Site, StoreRefusal, audit_capture, meter_at_rest,
-    new_meter, read_log,
+    Audited, EvidenceError, Log, LogError, OpenedLog, SealedLogError, Side, Site, StoreRefusal,
+    audit_capture, audit_opened, meter_at_rest, new_meter, read_log,
 };
 use fw_fleet_audit::{AuditedMeter, audit_switches};
 use fw_meter::MeterCore;
@@ -35,6 +39,8 @@ pub(crate) struct Given<'o, 'a> {
     /// The image that meters that began new ran.
     pub(crate) factory: Vec<u8>,
     pub(crate) books: Books<'a>,
+    /// The key files of head ends.
+    pub(crate) keys: Vec<KeyedHead>,
 }
 
 /// What is said of a meter. What rows of books are compared with stands with it, and its log.
@@ -56,7 +62,9 @@ pub(crate) fn append_judged<'c>(
     subject: &Subject<'_>,
     stores: FoundStores,
     capture: &'c [u8],
+    reading: &'c Option<Reading>,
 ) -> Result<Verdict<'c>, AuditFault>
+    requires { IsReadingOf given.now subject.now capture.now reading.now }
     ensures { IfOk result (IsFound given.now subject.now stores capture.now) }
 {
     let form = given.options.report;
@@ -71,7 +79,7 @@ pub(crate) fn append_judged<'c>(
         }
     };
     match meter_in(alloc, last) {
-        Ok(end) => Ok(append_audited(alloc, text, given, subject, begin, capture, &end)?),
+        Ok(end) => Ok(append_audited(alloc, text, given, subject, begin, capture, reading, &end)?),
         Err(refusal) => {
             append_refusal(alloc, text, form, subject.store, refusal)?;
             Ok(Verdict::Unfit)
@@ -87,8 +95,35 @@ fn append_audited<'c>(
     subject: &Subject<'_>,
     begin: MeterCore<MemoryStore>,
     capture: &'c [u8],
+    reading: &'c Option<Reading>,
     end: &MeterCore<MemoryStore>,
 ) -> Result<Verdict<'c>, AllocError>
+    requires { IsReadingOf given.now subject.now capture.now reading.now }
+    ensures { IfOk result (HasFit given.now subject.now begin.meter capture.now end.now.meter) }
+{
+    match reading {
+        None => append_plain(alloc, text, given, subject, begin, capture, end),
+        Some(Reading::Opened(log)) => append_opened(
+            alloc, text, given, subject, begin, capture, log, end,
+        ),
+        Some(Reading::Unopened(error)) => {
+            append_unopened(alloc, text, given.options.report, subject, capture, *error)?;
+            Ok(Verdict::Unfit)
+        }
+    }
+}
+
+/// The same of a meter whose capture is plain.
+fn append_plain<'c>(
+    alloc: Global,
+    text: &mut String,
+    given: &Given<'_, '_>,
+    subject: &Subject<'_>,
+    begin: MeterCore<MemoryStore>,
+    capture: &'c [u8],
+    end: &MeterCore<MemoryStore>,
+) -> Result<Verdict<'c>, AllocError>
+    requires { HasNoLink given.now.keys.items subject.now.meter }
     ensures { IfOk result (HasFit given.now subject.now begin.meter capture.now end.now.meter) }
 {
     let form = given.options.report;
@@ -107,6 +142,71 @@ fn append_audited<'c>(
             append_departure(alloc, text, form, subject, error)?;
             Ok(Verdict::Unfit)
         }
+    }
+}
+
+/// The same of a meter by its log in plain words, as its capture has it. The line of what that log passes over comes first.
+fn append_opened<'c>(
+    alloc: Global,
+    text: &mut String,
+    given: &Given<'_, '_>,
+    subject: &Subject<'_>,
+    begin: MeterCore<MemoryStore>,
+    capture: &[u8],
+    log: &'c OpenedLog,
+    end: &MeterCore<MemoryStore>,
+) -> Result<Verdict<'c>, AllocError>
+    requires { IsOpenedAs given.now subject.now capture.now log.now }
+    ensures { IfOk result (HasFit given.now subject.now begin.meter capture.now end.now.meter) }
+{
+    let form = given.options.report;
+    append_rest(
+        alloc,
+        text,
+        form,
+        subject.capture,
+        capture,
+        whole_part(alloc, capture),
+    )?;
+    append_passed(alloc, text, form, subject.capture, log.count_of_passed())?;
+    match audit_opened(alloc, &given.options.heads, begin, log, end) {
+        Ok(found) => append_fitting(alloc, text, given, subject, found),
+        Err(error) => {
+            append_departure(alloc, text, form, subject, error)?;
+            Ok(Verdict::Unfit)
+        }
+    }
+}
+
+/// Appends the line of a sealed capture that is no log in plain words.
+fn append_unopened(
+    alloc: Global,
+    text: &mut String,
+    form: AuditForm,
+    subject: &Subject<'_>,
+    capture: &[u8],
+    error: SealedLogError,
+) -> Result<(), AllocError> {
+    let whole = whole_part(alloc, capture);
+    append_rest(alloc, text, form, subject.capture, capture, whole)?;
+    let whose = Whose::Meter(subject.meter);
+    match error {
+        SealedLogError::NoLog(error) => {
+            append_no_log(alloc, text, form, subject.capture, whose, error)
+        }
+        SealedLogError::Unsealed(mark, why) => {
+            append_record(
+                alloc,
+                text,
+                form,
+                unsealed_name(why),
+                subject.capture,
+                whose,
+                mark,
+                unsealed_why(why),
+            )
+        }
+        SealedLogError::OutOfMemory => Err(AllocError),
     }
 }
 
@@ -152,7 +252,7 @@ pub(crate) fn log_of_unfit<'c>(
 }
 
 /// The addresses of the other meters with the same capture.
-fn others_of(
+pub(crate) fn others_of(
     alloc: Global,
     subjects: &[Subject<'_>],
     subject: &Subject<'_>,

@@ -1,3 +1,4 @@
 mod Reading
 mod Opening
 mod Marks
+mod Logs

@@ -19,7 +19,7 @@ there_within [] k item there = absurd cc
 there_within (first ∷ log) zero item there = omega arith
 there_within (first ∷ log) (suc k) item there = let rest = there_within log k item there in omega arith
 
-as_many : (log : List Item) → length (entries_of log) ≡ length log
+pub as_many : (log : List Item) → length (entries_of log) ≡ length log
 as_many [] = refl
 as_many (item ∷ log) = ap suc (as_many log)
 

@@ -1,20 +1,31 @@
 -- For private members alone: no public clause cites it.
-use Rattle.std.specs.Prelude.{◌≡◌, ◌<◌, ◌++◌, ℕ, slice_get, List, [], ◌∷◌, Option, Some, None, Result, Ok, Err, option_to_list}
+use Rattle.std.specs.Prelude.{◌≡◌, ◌<◌, ◌++◌, ◌⊎◌, ℕ, slice_get, List, [], ◌∷◌, Option, Some, None, Result, Ok, Err, option_to_list}
 use Rattle.fw_capture.specs.View.{Told}
-use Rattle.fw_audit.specs.Log.{item_of}
+use Rattle.std.specs.declared.net.socket_addr.SocketAddr.{SocketAddr}
+use Rattle.fw_audit.specs.Log.{Item, item_of, sent}
 use Rattle.fw_audit.specs.declared.error.AuditError.{AuditError}
 use Rattle.fw_audit.specs.declared.error.AuditError.TheVariants as audit
 use Rattle.fw_audit.specs.declared.error.Departure.{Departure}
 use Rattle.fw_audit.specs.declared.item.LogItem.{LogItem}
 use Rattle.fw_image.specs.declared.error.OpenError.{OpenError}
 use Rattle.fw_image.specs.declared.error.OpenError.TheVariants as not_opened
+use Rattle.fw_sealport.specs.Peers.{RefusesFrom}
+use Rattle.fw_sealport.specs.declared.dropped.Unopened.{Unopened}
+use Rattle.fw_sealport.specs.declared.dropped.Unopened.TheVariants as unopened
+use Rattle.fw_sealport.specs.declared.links.Links.{Links}
 use Rattle.fw_evidence.specs.Entries.{Entry, entries_at, entry_of}
+use Rattle.fw_evidence.specs.Sealed.{Begins, HasUnsealed, Opens, items_in, marks_in as opened_marks, opened_item}
 use Rattle.fw_evidence.specs.declared.error.EvidenceError.{EvidenceError}
 use Rattle.fw_evidence.specs.declared.error.EvidenceError.TheVariants as evidence
 use Rattle.fw_evidence.specs.declared.error.LogError.{LogError}
 use Rattle.fw_evidence.specs.declared.error.LogError.TheVariants as errors
 use Rattle.fw_evidence.specs.declared.error.Mark.{Mark}
 use Rattle.fw_evidence.specs.declared.error.Stray.{Stray}
+use Rattle.fw_evidence.specs.declared.opened.OpenedItem.{OpenedItem}
+use Rattle.fw_evidence.specs.declared.opened.OpenedLog.{OpenedLog}
+use Rattle.fw_evidence.specs.declared.unsealing.Opening.{Opening}
+use Rattle.fw_evidence.specs.declared.sealed.SealedLogError.{SealedLogError}
+use Rattle.fw_evidence.specs.declared.sealed.SealedLogError.TheVariants as sealed
 use Rattle.fw_evidence.specs.declared.site.Site.{Site}
 use Rattle.fw_evidence.specs.declared.error.StoreRefusal.{StoreRefusal}
 use Rattle.fw_evidence.specs.declared.error.StoreRefusal.TheVariants as refusals
@@ -67,3 +78,35 @@ abbrev pub refusal_of : OpenError → StoreRefusal
 refusal_of not_opened.Fault = refusals.OutOfMemory
 refusal_of not_opened.BadHeader = refusals.BadHeader
 refusal_of not_opened.BadImage = refusals.BadImage
+
+-- ---- a log that is opened
+
+-- what an item says in plain words, if it says something
+abbrev pub said_in : Option OpenedItem → List Item
+said_in None = []
+said_in (Some item) = opened_item item ∷ []
+
+-- why an item says nothing and is not passed over: the end hasn't sealed so what is sent, or memory was refused
+abbrev pub IsUnsaid : Opening → Item → Unopened → Type 0
+IsUnsaid old item why =
+    (why ≡ unopened.OutOfMemory) ⊎ ((to : SocketAddr) × (wire : List ℕ) × (item ≡ sent to wire) × RefusesFrom old.own to wire why)
+
+-- the error that it is
+abbrev pub refusal_at : Mark → Unopened → SealedLogError
+refusal_at mark unopened.Stranger = sealed.Unsealed mark unopened.Stranger
+refusal_at mark unopened.NotSealed = sealed.Unsealed mark unopened.NotSealed
+refusal_at mark unopened.Repeated = sealed.Unsealed mark unopened.Repeated
+refusal_at mark unopened.OutOfMemory = sealed.OutOfMemory
+
+-- items and their marks open to this log
+pub record IsOpened (hears seals : Links → Type 0) (wire : List Item) (at : List Mark) (log : OpenedLog) : Type 0 where
+  pub first : Opening
+  pub begins : Begins hears seals first
+  pub last : Opening
+  pub opens : Opens hears first wire at (items_in log) (opened_marks log) last
+
+-- or they don't, for this reason
+abbrev pub IsUnopened : (Links → Type 0) → (Links → Type 0) → List Item → List Mark → SealedLogError → Type 0
+IsUnopened hears seals wire at (sealed.NoLog error) = ⊥
+IsUnopened hears seals wire at (sealed.Unsealed mark why) = HasUnsealed hears seals wire at mark why
+IsUnopened hears seals wire at sealed.OutOfMemory = Unit {0}

@@ -57,7 +57,7 @@ pub fn audit_capture<'a>(
 }
 
 /// What was found wrong, with the record in which it is.
-fn placed(marks: &[Mark], error: AuditError) -> EvidenceError
+pub(crate) fn placed(marks: &[Mark], error: AuditError) -> EvidenceError
     requires { IsWithin (length marks.now) error }
     ensures { IsMarked marks.now error result }
 {

@@ -23,7 +23,7 @@ pub struct Log<'a> {
 
 impl<'a> Log<'a> {
     /// A log without an item.
-    fn new(alloc: Global) -> Log<'a>
+    pub(crate) fn new(alloc: Global) -> Log<'a>
         ensures items { result.items.items ≡ [] }
         ensures marks { result.marks.items ≡ [] }
     {
@@ -34,7 +34,7 @@ impl<'a> Log<'a> {
     }
 
     /// Appends an item, if there is one, with its record. After an error it is unspecified.
-    fn add(&mut self, mark: Mark, item: Option<LogItem<'a>>) -> Result<(), AllocError>
+    pub(crate) fn add(&mut self, mark: Mark, item: Option<LogItem<'a>>) -> Result<(), AllocError>
         ensures items { OnOk result (self.new.items.items ≡ self.old.items.items ++ option_to_list item.entry) }
         ensures marks { OnOk result (self.new.marks.items ≡ self.old.marks.items ++ marks_in mark item.entry) }
         ensures memory { OnErr result (IsSome item.entry) }

@@ -1,9 +1,9 @@
 //! The command `audit`, and its help.
 
 use super::manual::{CommandOption, Manual, Presence, Takes};
-use super::{Invocation, WrongValue, address, manual};
+use super::{Invocation, WrongValue, address, manual, order_of};
 use clap::{ArgMatches, Command};
-use fw_auditor::{AuditForm, AuditOptions, FreshMeter, HeadLog};
+use fw_auditor::{AuditForm, AuditOptions, FreshMeter, HeadLog, KeyOption};
 use fw_blocks::{MAX_BLOCK_SIZE, MAX_IMAGE_SIZE};
 use std::alloc::{AllocError, Global};
 use std::net::SocketAddr;
@@ -50,11 +50,20 @@ one of --book. Then FILE has a line for each meter that it asked, and each end
 has the address that the others see, so none listens at 0.0.0.0 or [::]. All
 captures are in memory at once. No clock is asked, and nothing of what was lost.
 
-A capture is plain: one of sealed datagrams doesn't fit. Meters of one process,
-as with --count, have one capture: each has a line with it. What a power cut
-left of a last packet is left out, as the meter cuts it off when it starts
-again. If a meter ran without --capture in between, that doesn't fit once it
-shows.
+A capture is plain, but for that of a meter with keys, which is sealed. --keys
+opens that: it has the address of a head end, as captures of meters have it, its
+number, and its key file, as of `head --keys`. A meter that such a file has a
+link with is one with keys, and any other has none. What came to it and doesn't
+open, or came again, it passed over. With --strict these meters ran with it too.
+Captures of head ends aren't opened, so --keys isn't taken with --head-log.
+Without --keys a sealed capture doesn't fit. While a meter verifies it takes a
+turn where it passes something over: captures of earlier releases have no note
+of that, and may not fit though all is well.
+
+Meters of one process, as with --count, have one capture: each has a line with
+it. What a power cut left of a last packet is left out, as the meter cuts it off
+when it starts again. If a meter ran without --capture in between, that doesn't
+fit once it shows.
 
 Standard output gets these lines:
 
@@ -63,6 +72,9 @@ Standard output gets these lines:
       beside a store
   cut PATH N bytes
       a power cut left them at the end of this capture; they are left out
+  passed PATH N datagrams
+      of what came in this sealed capture so many say nothing: they don't open,
+      or came again
   meter N ok D datagrams S starts
       the capture and the store of this meter fit
   activated N HEAD SERIAL RELEASE SHA256
@@ -91,7 +103,9 @@ Standard output gets these lines:
       last: N meters, books, head ends and orders don't fit
 
 For a record RULE is NotStarted, NothingVerified, NothingOwed, OtherReply or
-ReplyMissing, for what no meter does; NotOffered, for what no head end with this
+ReplyMissing, for what no meter does; NotSealed, NoKey or CounterUsed, where a
+meter with keys sent what it didn't seal, or to an end that it has no link with,
+or with a counter that it had used; NotOffered, for what no head end with this
 book sends there; NoEntry, Elsewhere, ToItself, UnnamedTurn, StartedAsMeter or
 NoteOfMeter, for a packet that is of no end with this capture; StartedAsHead or
 OtherHeads, where a head end started, or meters with other addresses of --head;
@@ -106,9 +120,12 @@ With `--report json` each line is an object of JSON with the same.
 That all fits means that the files tell of meters and head ends, and not that
 they are genuine: whoever can change all of them can make others that fit.
 
-Examples, meters of a head end, and of two with their captures:
+Examples, meters of a head end, those of one with keys, and of two with their
+captures:
 
   ./dlmsfw audit --audited audited.csv --book head.book
+  ./dlmsfw audit --audited audited.csv --book head.book \\
+    --keys 10.0.0.1:4058,7,head.keys
   ./dlmsfw audit --audited audited.csv --head 10.0.0.1:4058 \\
     --head 10.0.0.2:4058 --head-log 10.0.0.1:4058,7.pcap,7.book \\
     --head-log 10.0.0.2:4058,8.pcap,8.book";
@@ -128,6 +145,12 @@ Exit status:
        BadRecord N   record N of a book, counted from 0, has no place in it
        CaptureFault  a capture can't be read
        StoreFault    a store can't be read, or the .journal beside it
+       KeysFault     a key file can't be read, is no regular file, or has more
+                     than 64 MiB
+       KeysReadable  others than its owner may read or write a key file
+       BadKeys L CAUSE
+                     line L of a key file, counted from 1, is none of it;
+                     `meter --help` has the causes
        FactoryFault  the file of --factory-file can't be read
        BadSetup      no meter can be made with --capacity and the factory image:
                      that is empty, or longer
@@ -163,6 +186,18 @@ const MANUAL: &Manual = &Manual {
             takes: Takes::Texts("ADDR,CAPTURE,BOOK"),
             presence: Presence::Optional,
             help: "The address of a head end, its capture and its book, once for each",
+        },
+        CommandOption {
+            name: "keys",
+            takes: Takes::Texts("ADDR,N,KEYS"),
+            presence: Presence::Without("head-log"),
+            help: "The address of a head end, its number and its key file, once for each",
+        },
+        CommandOption {
+            name: "strict",
+            takes: Takes::Nothing,
+            presence: Presence::With("keys"),
+            help: "The meters took only what was sealed after all that was taken before",
         },
         CommandOption {
             name: "block-size",
@@ -217,6 +252,8 @@ pub(super) fn invoked<'a>(
         audited,
         books: Vec::from_slice(alloc, given.get_strs("book").unwrap_or(&[]))?,
         head_logs: head_logs_of(alloc, given.get_strs("head-log").unwrap_or(&[]))?,
+        keys: keys_of(alloc, given.get_strs("keys").unwrap_or(&[]))?,
+        order: order_of(given),
         heads: heads_of(alloc, given.get_strs("head").unwrap_or(&[]))?,
         fresh: FreshMeter {
             block_size,
@@ -251,6 +288,26 @@ fn head_log<'a>(text: &'a str) -> Result<HeadLog<'a>, WrongValue<'a>> {
         Some(log) => Ok(log),
         None => Err(WrongValue::NoHeadLog {
             option: "head-log",
+            text,
+        }),
+    }
+}
+
+/// The key files of head ends.
+fn keys_of<'a>(alloc: Global, texts: &[&'a str]) -> Result<Vec<KeyOption<'a>>, WrongValue<'a>> {
+    let mut keys = Vec::new(alloc);
+    for text in texts {
+        keys.push(key_option(*text)?)?;
+    }
+    Ok(keys)
+}
+
+/// The key file that a text has.
+fn key_option<'a>(text: &'a str) -> Result<KeyOption<'a>, WrongValue<'a>> {
+    match KeyOption::from_text(text) {
+        Some(option) => Ok(option),
+        None => Err(WrongValue::NoKeyFile {
+            option: "keys",
             text,
         }),
     }

@@ -9,10 +9,10 @@ pub returns-then-has_heads : goal.returns-then-has_heads
 returns-then-has_heads g c =
     let given = c.args.given.now in
     IfOk-weaker c.tell_field.result (λ (departed : ℕ). departed ≡ 0 → FieldFits given) (λ (departed : ℕ). departed ≡ 0 → AllFit given.options.now)
-    (λ departed fits none. field_fits c.headline_by_looking.ensures given (fits none)) c.tell_field.ensures
+    (λ departed fits none. field_fits c.headline_by_looking.ensures given c.requires (fits none)) c.tell_field.ensures
 
 pub returns : goal.returns
 returns g c =
     let given = c.args.given.now in
     IfOk-weaker c.tell_fleet.result (λ (departed : ℕ). departed ≡ 0 → FleetFits given) (λ (departed : ℕ). departed ≡ 0 → AllFit given.options.now)
-    (λ departed fits none. fleet_fits c.headline_by_looking.ensures given (c.has_heads.ensures c.if-has_heads.false) (fits none)) c.tell_fleet.ensures
+    (λ departed fits none. fleet_fits c.headline_by_looking.ensures given c.requires (c.has_heads.ensures c.if-has_heads.false) (fits none)) c.tell_fleet.ensures

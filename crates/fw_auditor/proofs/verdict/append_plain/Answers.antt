@@ -1,4 +1,4 @@
-use Rattle.std.proofs.Common.{List, ap, refl, subst, ◌∙◌}
+use Rattle.std.proofs.Common.{List, ap, refl, inl, subst, ◌∙◌}
 use Rattle.std.proofs.lemmas.Result.{IfOk-weaker}
 use Rattle.std.specs.declared.net.socket_addr.SocketAddr.{SocketAddr}
 use Rattle.fw_audit.specs.Log.{log_of}
@@ -10,7 +10,7 @@ use Rattle.fw_auditor.specs.Private.{HasFit, IsCompared, IsSiteOf, others_of}
 use Rattle.fw_auditor.specs.declared.list.Subject.{Subject}
 use Rattle.fw_auditor.specs.declared.verdict.Verdict.{Verdict}
 use Rattle.fw_auditor.proofs.Fitted.{fits_by}
-use Rattle.fw_auditor.proofs.verdict.append_audited.Goals as goal
+use Rattle.fw_auditor.proofs.verdict.append_plain.Goals as goal
 
 pub returns-in-Ok : goal.returns-in-Ok
 returns-in-Ok c =
@@ -27,5 +27,5 @@ returns-in-Ok c =
     let own : IsSiteOf given subject site = record { side = refl; at = refl; heads = c.deref-3.ensures.value; others = others } in
     let is = subst (λ (heads : List SocketAddr). IsMeterLog heads (reopened begin) log found.images.items end) c.deref-3.ensures.value c.in-Ok.ensures.is in
     IfOk-weaker c.append_fitting.result (λ (v : Verdict). IsCompared given subject found.log found.images.items v) (λ (v : Verdict). HasFit given subject begin capture end v)
-    (λ v compared. fits_by given subject begin capture end found.log found.log.marks.items found.images.items site whole v own c.whole_part-whole.ensures c.in-Ok.ensures.log is compared)
+    (λ v compared. fits_by given subject begin capture end found.log found.log.marks.items found.images.items site whole v own c.whole_part-whole.ensures (inl (c.requires, c.in-Ok.ensures.log)) is compared)
     c.append_fitting.ensures
