@@ -345,13 +345,23 @@ impl From<AllocError> for HeadKeysError {
     }
 }
 
-/// Why the campaigns that are to be cancelled in a book aren't named, or one of them isn't let be cancelled.
-#[derive(Clone, Copy)]
+/// Why the campaigns that are to be cancelled in a book aren't named, or one of them isn't let be cancelled. It prints its name, or of a
+/// refusal the book's name for it.
+#[derive(Clone, Copy, Debug, Error)]
 pub enum CancelsError {
     /// The book refuses to cancel one of them.
     Refused(BookError),
     /// Memory was refused.
     OutOfMemory,
+}
+
+impl fmt::Display for CancelsError {
+    fn fmt<W: fmt::Write>(&self, f: &mut fmt::Formatter<W>) -> fmt::Result {
+        match self {
+            CancelsError::Refused(refusal) => fmt::Display::fmt(refusal, f),
+            CancelsError::OutOfMemory => f.write_str("OutOfMemory"),
+        }
+    }
 }
 
 impl From<AllocError> for CancelsError {
