@@ -4,6 +4,7 @@ What a meter shows at each moment, and what it answers to the rest of the campai
 docs/FORMATS.md.
 """
 
+import errno
 import hashlib
 import os
 import pathlib
@@ -11,7 +12,7 @@ import shutil
 import signal
 from dataclasses import dataclass
 
-from common import Meter, wants
+from common import HOST, Meter, listed, wants
 from cuts import LOOKS, last_sync, lefts, number_of_call, power, recorded_run
 from disk import CHANGES, at_once, folder_of, key
 from ends import SET_ENABLED
@@ -227,4 +228,36 @@ def a_store_has_one_name_and_one_process(place):
     refused(f"{STORE}.new: {alone}")
 
 
-STEPS = [stores_outlive_cuts, refused_calls_change_nothing, names_outlive_a_kill, a_store_has_one_name_and_one_process]
+# To be seen: a store that is refused, or stays under FILE.new, where a cut in its renaming left it both names.
+def a_store_loses_its_second_name(place):
+    """A store that a cut in its renaming left the name FILE.new as well is opened, and has one name then."""
+    wants(place.run("answer", "--store", STORE)[0] == 0, "no store is made")
+    store, new = place.folder / STORE, place.folder / f"{STORE}.new"
+    os.link(store, new)
+    before = store.read_bytes()
+    said = place.run("answer", "--store", STORE)
+    wants(said == (0, "", []), f"with both names it ends with {said}")
+    wants(not new.exists() and store.stat().st_nlink == 1 and store.read_bytes() == before, "it keeps the name FILE.new, or has other bytes")
+
+
+# To be seen: a path that is too long, and is told as one where no file is, or as another fault.
+def a_path_that_is_too_long_is_told(place):
+    """A path of more bytes than the operating system takes is refused with the cause that the system has for it, and nothing is made."""
+    path, why = "a" * 5000, f"{os.strerror(errno.ENAMETOOLONG)} (os error {errno.ENAMETOOLONG})"
+    listed(place.folder, [])
+    head = ["head", "--head", "7", "--meters", "meters.csv", "--listen", f"{HOST}:0", "--book"]
+    for words, fault in (["answer", "--store"], "StoreFault"), (head, "BookFault"):
+        status, out, said = place.run(*words, path)
+        wants((status, out, said) == (1, "", [f"dlmsfw: {fault}", f"{words[-1]} {path}: {why}"]),
+              f"{words} ends with {status} and {[it[-80:] for it in said]}")
+    wants([it.name for it in place.folder.iterdir()] == ["meters.csv"], "something is made")
+
+
+STEPS = [
+    stores_outlive_cuts,
+    refused_calls_change_nothing,
+    names_outlive_a_kill,
+    a_store_has_one_name_and_one_process,
+    a_store_loses_its_second_name,
+    a_path_that_is_too_long_is_told,
+]
