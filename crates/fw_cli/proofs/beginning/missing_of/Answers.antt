@@ -20,4 +20,4 @@ returns-in_err-parts_of-clause-faults c =
 pub returns-clause-parts : goal.returns-clause-parts
 returns-clause-parts c =
     openings_some c.args.asked.now.opened c.in-Some.opened (listed_in c.args.asked.now.list) _ _ c.args.book.now _ c.in-Some.is
-    (c.meters-2.ensures.meters ∙ c.meters.ensures.meters) c.deref.ensures.value c.in_ok-parts_of.ensures.parts
+    (c.meters-list.ensures.meters ∙ c.meters.ensures.meters) c.deref.ensures.value c.in_ok-parts_of.ensures.parts
