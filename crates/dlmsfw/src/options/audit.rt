@@ -297,20 +297,21 @@ fn head_log<'a>(text: &'a str) -> Result<HeadLog<'a>, WrongValue<'a>> {
 fn keys_of<'a>(alloc: Global, texts: &[&'a str]) -> Result<Vec<KeyOption<'a>>, WrongValue<'a>> {
     let mut keys = Vec::new(alloc);
     for text in texts {
-        keys.push(key_option(*text)?)?;
+        match KeyOption::from_text(*text) {
+            Some(option) => {
+                if keys.push(option).is_err() {
+                    return Err(WrongValue::OutOfMemory);
+                }
+            }
+            None => {
+                return Err(WrongValue::NoKeyFile {
+                    option: "keys",
+                    text: *text,
+                });
+            }
+        }
     }
     Ok(keys)
-}
-
-/// The key file that a text has.
-fn key_option<'a>(text: &'a str) -> Result<KeyOption<'a>, WrongValue<'a>> {
-    match KeyOption::from_text(text) {
-        Some(option) => Ok(option),
-        None => Err(WrongValue::NoKeyFile {
-            option: "keys",
-            text,
-        }),
-    }
 }
 
 /// The addresses that may ask.
