@@ -274,7 +274,7 @@ def wires_are_bound_to_this_machine(place):
 # To be seen: a run without open files for its wires that doesn't say so.
 def wires_want_open_files(place):
     """Where a process may have fewer open files than its links take, `live` says why, and how many it may have."""
-    words = ["sh", "-c", 'ulimit -n 6 && exec "$@"', "", place.program, "live", "--rounds", "1", "--workers", "1"]
+    words = ["sh", "-c", 'ulimit -n 8 && exec "$@"', "", place.program, "live", "--rounds", "1", "--workers", "1"]
     made = subprocess.run(words, input=SCRIPT.format("616263"), capture_output=True, text=True, timeout=PATIENCE, check=False)
     why = "too many open files: each link takes two sockets; ulimit -n prints how many open files a process may have"
     wants((made.returncode, made.stdout, made.stderr.splitlines()) == (1, "", ["dlmsfw: Socket", why]), f"it ends with {made}")
