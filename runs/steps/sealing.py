@@ -156,6 +156,23 @@ def what_does_not_open_is_counted(place):
         wants(lines[-1].endswith(", 4 unopened\n") and "strangers" not in lines[-1] and "faults" not in lines[-1], f"it tells {lines}")
 
 
+# To be seen: a sealing port that counts no fault of the one below it, or others.
+def faults_are_counted(place):
+    """A head end with keys whose socket failed three times tells that, beside what it didn't let through."""
+    folder, head = place.folder, free_address()
+    with bound() as meter:
+        listed(folder, [meter.getsockname()])
+        words = ["--keys", head_keys(folder), "--new-counter", "--resend", "200", "--every", "1"]
+        faulty = HeadEnd(folder, "--new", *opening(folder, 1), *words, listen=name_of(head), env=place.preloaded("faulty", FAULTS=3))
+        with faulty.running() as process:
+            received(meter)
+            meter.sendto(bytes.fromhex(GET_STATUS), head)
+            lines = []
+            while not lines[-1:] or "unopened" not in lines[-1] and len(lines) < 5:
+                lines.append(process.process.stderr.readline())
+    wants(lines[-1].endswith(", 3 faults, 1 unopened\n"), f"it tells {lines}")
+
+
 def longest_front(capture, at):
     """Of a capture, how many datagrams in a row the end at this address sent at most. Each record is a packet of IPv4 (docs/FORMATS.md)."""
     data, place, now, most = capture.read_bytes(), 24, 0, 0
@@ -330,6 +347,7 @@ STEPS = [
     ipv4_head_ends_are_heard_at_all_addresses,
     what_is_no_key_file_is_refused,
     what_does_not_open_is_counted,
+    faults_are_counted,
     strict_links_have_a_block_at_a_time,
     keys_and_counters_are_refused,
 ]
