@@ -5,7 +5,7 @@ import re
 
 TEXTS = pathlib.Path(__file__).resolve().parent.parent / "docs" / "help.txt"
 # What stands in the help for a value that is a file or a folder.
-FILES = ("FILE", "LIST", "CAPTURE", "KEYS", "BOOK", "FOLDER", "OUT")
+FILES = ("FILE", "LIST", "CAPTURE", "KEYS", "BOOK", "FOLDER", "OUT", "EVENTS", "METRICS")
 
 
 class Option:
