@@ -7,7 +7,7 @@ import struct
 import subprocess
 import time
 
-from common import HOST, PATIENCE, Members, Meter, bound, comes_in, listed, name_of, received, wait_for, wants
+from common import HOST, PATIENCE, Members, Meter, bound, comes_in, has_ipv6, listed, name_of, received, wait_for, wants
 from cuts import recording
 from ends import GET_STATUS, STATUS, HeadEnd
 from ports import records_of
@@ -34,24 +34,22 @@ def started(count, *heads):
 
 # To be seen: a start of another command, or of another number of meters; an address of --head that is left out, or is another one.
 def starts_say_what_started(place):
-    """The notes of a start: of a meter, of one at [::] of whom two may ask, where an IPv4 address is IPv4-mapped, of meters in one process, and of
-    a head end."""
+    """The notes of a start: of a meter, if there is IPv6 of one at [::] of whom two may ask, where an IPv4 address is IPv4-mapped, of meters in
+    one process, and of a head end."""
     plain, asked, fleet, head = (place.folder / f"{name}.pcap" for name in ("plain", "asked", "fleet", "head"))
     mapped, other, heard = ("::ffff:192.0.2.7", 4059), ("2001:db8::7", 65535), ("192.0.2.7", 4059)
     words = ["--head", "192.0.2.7:4059", "--head", "[2001:db8::7]:65535"]
+    wanted = {plain: started(0), fleet: started(2, heard), head: [b"dlmsfw start head " + (7).to_bytes(4, "big")]}
     with Meter(place.folder / "plain.fw", "--capture", plain).killed() as meter:
         listed(place.folder, [meter.address])
         HeadEnd(place.folder, "--new", "--capture", head).over()
-    with Meter(place.folder / "asked.fw", "--capture", asked, *words, listen="[::]:0").killed():
-        pass
+    if has_ipv6():
+        wanted[asked] = started(0, mapped, other)
+        with Meter(place.folder / "asked.fw", "--capture", asked, *words, listen="[::]:0").killed():
+            pass
     with Members(place.folder, 2, "--capture", fleet, *words[:2]).meter.killed():
         pass
-    for capture, want in (
-        (plain, started(0)),
-        (asked, started(0, mapped, other)),
-        (fleet, started(2, heard)),
-        (head, [b"dlmsfw start head " + (7).to_bytes(4, "big")]),
-    ):
+    for capture, want in wanted.items():
         got = notes_of(capture)
         wants(got == want, f"{capture.name} has {got}")
 

@@ -76,6 +76,16 @@ def bound():
     return made
 
 
+def has_ipv6():
+    """Whether a socket can be bound at all IPv6 addresses here."""
+    try:
+        with socket.socket(socket.AF_INET6, socket.SOCK_DGRAM) as made:
+            made.bind(("::", 0))
+    except OSError:
+        return False
+    return True
+
+
 def name_of(at):
     """An address as an option has it."""
     host, port = at

@@ -2,10 +2,9 @@
 
 import hashlib
 import os
-import socket
 import time
 
-from common import HOST, PATIENCE, SILENCE, Head, Meter, Skipped, bound, listed, name_of, received, stays_silent, wait_for, wants
+from common import HOST, PATIENCE, SILENCE, Head, Meter, Skipped, bound, has_ipv6, listed, name_of, received, stays_silent, wait_for, wants
 from ends import GET_STATUS, STATUS, HeadEnd, fields_of
 from suite0 import opened, parts_of, sealed
 
@@ -291,16 +290,6 @@ def ipv4_head_ends_are_heard_at_all_addresses(place):
             listed(part.folder, [(HOST, meter.address[1])])
             brings(part.folder, head, 1, IMAGE, "--new", "--new-counter")
             activated(meter, 1, IMAGE)
-
-
-def has_ipv6():
-    """Whether a socket can be bound at all IPv6 addresses here."""
-    with socket.socket(socket.AF_INET6, socket.SOCK_DGRAM) as made:
-        try:
-            made.bind(("::", 0))
-        except OSError:
-            return False
-    return True
 
 
 # To be seen: an end that waits for what nobody writes; one that takes keys by another name, beside which they would have another counter; one
