@@ -4,11 +4,13 @@ The folder of such a crate has `crate.txt`, its line of crates.txt, and its sour
 The gate refuses a `.rt` file outside `crates/`, and proves each crate there.
 """
 
+import os
 import pathlib
 import shutil
 import subprocess
 import sys
 import tempfile
+import time
 
 ROOT = pathlib.Path(__file__).resolve().parent.parent
 
@@ -44,10 +46,13 @@ class TextCrate:
         if self.program.exists() and self.program.stat().st_mtime > max(source.stat().st_mtime for source in made_from):
             return
         with tempfile.TemporaryDirectory() as copy:
+            began = time.time()
             self._copy(pathlib.Path(copy), below, texts)
             self._prove(copy)
             self.program.parent.mkdir(exist_ok=True)
             shutil.copy(pathlib.Path(copy) / "crates" / self.name / "out" / self.program.name, self.program)
+            # (what was changed since isn't in it)
+            os.utime(self.program, (began, began))
 
     def put(self, to):
         """Makes a crate of the text, in the repository `to`."""
