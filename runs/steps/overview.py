@@ -9,7 +9,6 @@ from closing import closes, opened
 from common import wants
 
 DIGEST = hashlib.sha256(b"image").hexdigest()
-STATES = ("done", "live", "failed", "cancelled")
 HEADINGS = ["campaign", "meter", "ended", "reason"]
 
 
