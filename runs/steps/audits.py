@@ -1,6 +1,7 @@
 """Audits of a meter and of a head end that are run here, by their captures, store and book as they are, and as they are not."""
 
 import hashlib
+import itertools
 import json
 import signal
 import socket
@@ -8,6 +9,7 @@ import struct
 
 from common import HOST, Head, Members, Meter, bound, listed, name_of, received, wants
 from ends import GET_STATUS, STATUS, HeadEnd, action, opening, transfer, with_invoke_byte
+from ports import records_of
 from sealing import HEAD_TITLE, KEYS, METER_TITLE, OTHER_KEYS, head_keys, meter_keys, secret
 from suite0 import opened, sealed
 
@@ -33,12 +35,10 @@ def led(place):
     return at, capture, store
 
 
-def records_of(capture):
+def places_of(capture):
     """Where each record of a capture begins, and where the last one ends."""
-    data, places = capture.read_bytes(), [FRONT]
-    while places[-1] < len(data):
-        places.append(places[-1] + RECORD + struct.unpack_from("<I", data, places[-1] + 8)[0])
-    return places
+    sizes = (RECORD + len(packet) for _, packet in records_of(capture.read_bytes()))
+    return [*itertools.accumulate(sizes, initial=FRONT)]
 
 
 def audited(place, at, capture, store, *words):
@@ -52,13 +52,13 @@ def audited(place, at, capture, store, *words):
 def what_a_meter_did_fits(place):
     """A capture and a store of a meter that was killed fit, also if a power cut took the end of its last reply, and each file has its digest."""
     at, capture, store = led(place)
-    datagrams = len(records_of(capture)) - 3
+    datagrams = len(places_of(capture)) - 3
     status, lines, said = audited(place, at, capture, store)
     digest = hashlib.sha256(IMAGE).hexdigest()
     wants((status, lines, said) == (0, [f"meter 1 ok {datagrams} datagrams 2 starts", f"activated 1 7 1 0 {digest}", "ok"], []),
           f"it ends with {status}, {lines} and {said}")
     _, out, _ = place.run("audit", "--audited", "audited.csv", *ROOM)
-    whole, last = capture.read_bytes(), records_of(capture)[-2]
+    whole, last = capture.read_bytes(), places_of(capture)[-2]
     torn = place.folder / "torn.pcap"
     torn.write_bytes(whole[:-1])
     status, lines, said = audited(place, at, torn, store)
@@ -72,7 +72,7 @@ def what_a_meter_did_fits(place):
 def what_it_did_not_departs(place):
     """A changed reply, what is no capture, and another store depart where they do."""
     at, capture, store = led(place)
-    whole, places = capture.read_bytes(), records_of(capture)
+    whole, places = capture.read_bytes(), places_of(capture)
     changed = place.folder / "changed.pcap"
 
     def departs(line, capture=changed, store=store):
@@ -104,7 +104,7 @@ def what_departs_names_its_meter(place):
     with fleet.meter.killed():
         for at in fleet.at:
             wants(head.ask(at, GET_STATUS) == STATUS % 0, "a meter doesn't answer")
-    whole, places = capture.read_bytes(), records_of(capture)
+    whole, places = capture.read_bytes(), places_of(capture)
     wants(len(places) == 6, f"the capture has {len(places) - 1} records")
     lines = (f"{number},{{}}:{{}},{changed},{place.folder}/fleet.fw.{number}\n".format(*at.address) for number, at in enumerate(fleet.at, 1))
     (place.folder / "audited.csv").write_text("".join(lines))
@@ -242,7 +242,7 @@ def what_a_meter_with_keys_did_not_departs(place):
     """What a meter with keys didn't seal departs where it stands, and with another key, number or address, or none, its first reply does."""
     at, head = led_with_keys(place)
     folder, capture, changed = place.folder, place.folder / "m.pcap", place.folder / "changed.pcap"
-    whole, places = capture.read_bytes(), records_of(capture)
+    whole, places = capture.read_bytes(), places_of(capture)
     own, other = (f"{head},7,{file}" for file in (head_keys(folder), head_keys(folder, OTHER_KEYS, "other.keys")))
     secret(folder / "another.keys", f"2,{METER_TITLE},{','.join(KEYS)}\n")
 
@@ -250,7 +250,7 @@ def what_a_meter_with_keys_did_not_departs(place):
         changed.write_bytes(data)
         status, lines, said = audited(place, at, changed, folder / "m.fw", *(["--keys", keys] if keys else []), *words)
         told = [it.split(":")[0] for it in lines if it.startswith("departs ")]
-        wanted = [f"departs {rule} {changed} {number} {records_of(changed)[number]} meter 1", "departs 1"]
+        wanted = [f"departs {rule} {changed} {number} {places_of(changed)[number]} meter 1", "departs 1"]
         wants((status, told, said) == (1, wanted, []), f"{wanted} are wanted: it ends with {status}, {lines} and {said}")
 
     # The records are the start, the first request, its reply, the request once more, ..; and last the reply to the one that was overtaken, the
@@ -314,9 +314,7 @@ def led_by_a_head_end(place):
 
 def datagrams_of(capture):
     """The datagrams of a capture: the number of the record of each, where that begins, where it came from, and its bytes."""
-    data, places = capture.read_bytes(), records_of(capture)
-    for number, (begin, end) in enumerate(zip(places, places[1:])):
-        packet = data[begin + RECORD:end]
+    for number, (begin, (_, packet)) in enumerate(zip(places_of(capture), records_of(capture.read_bytes()))):
         if packet[9] == 17:
             source = f"{'.'.join(map(str, packet[12:16]))}:{struct.unpack_from('>H', packet, 20)[0]}"
             yield number, begin, source, packet[UDP:]
@@ -355,7 +353,7 @@ def what_a_head_end_did_not_departs(place):
     at, own = led_by_a_head_end(place)
     folder = place.folder
     sent, came = folder / "head.pcap", folder / "m.pcap"
-    whole, places, ask = sent.read_bytes(), records_of(sent), f"{own},changed.pcap,head.book"
+    whole, places, ask = sent.read_bytes(), places_of(sent), f"{own},changed.pcap,head.book"
 
     def departs(head, *wanted, book=None):
         status, lines, said = field_audited(place, at, head, book=book)

@@ -76,6 +76,12 @@ def bound():
     return made
 
 
+def free_address():
+    """An address that is free now."""
+    with bound() as free:
+        return free.getsockname()
+
+
 def has_ipv6():
     """Whether a socket can be bound at all IPv6 addresses here."""
     try:

@@ -11,7 +11,8 @@ import signal
 import subprocess
 import time
 
-from common import HOST, PATIENCE, SILENCE, Head, Members, Meter, bound, comes_in, listed, name_of, received, stays_silent, wait_for, wants
+from common import (HOST, PATIENCE, SILENCE, Head, Members, Meter, bound, comes_in, free_address, listed, name_of, received, stays_silent,
+                    wait_for, wants)
 from cuts import recording
 from ends import GET_NAME, GET_STATUS, SET_ENABLED, STATUS, Failed, HeadEnd, action, transfer
 
@@ -52,8 +53,7 @@ def full_disk(process):
 def at_a_free_port(start):
     """What is started with the address of a port that was free before. Nothing is where another process took it meanwhile."""
     for _ in range(5):
-        with bound() as free:
-            at = free.getsockname()
+        at = free_address()
         if started := start(name_of(at)):
             return at, started
     raise Failed("no port stays free")

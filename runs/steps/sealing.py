@@ -4,8 +4,10 @@ import hashlib
 import os
 import time
 
-from common import HOST, PATIENCE, SILENCE, Head, Meter, Skipped, bound, has_ipv6, listed, name_of, received, stays_silent, wait_for, wants
+from common import (HOST, PATIENCE, SILENCE, Head, Meter, Skipped, bound, free_address, has_ipv6, listed, name_of, received, stays_silent,
+                    wait_for, wants)
 from ends import GET_STATUS, STATUS, HeadEnd, fields_of
+from ports import records_of
 from suite0 import opened, parts_of, sealed
 
 # The titles of head end 7 and of the meter, and the two keys of their link.
@@ -31,12 +33,6 @@ def head_keys(folder, keys=KEYS, name="head.keys"):
 def meter_keys(folder, head):
     """The keys of meter 1 with head end 7 at this address."""
     return secret(folder / "meter.keys", f"{METER_TITLE}\n{name_of(head)},{HEAD_TITLE},{','.join(KEYS)}\n")
-
-
-def free_address():
-    """An address that is free now."""
-    with bound() as free:
-        return free.getsockname()
 
 
 def led(folder, head, *words):
@@ -174,10 +170,8 @@ def faults_are_counted(place):
 
 def longest_front(capture, at):
     """Of a capture, how many datagrams in a row the end at this address sent at most. Each record is a packet of IPv4 (docs/FORMATS.md)."""
-    data, place, now, most = capture.read_bytes(), 24, 0, 0
-    while place < len(data):
-        size = int.from_bytes(data[place + 8:place + 12], "little")
-        packet, place = data[place + 16:place + 16 + size], place + 16 + size
+    now = most = 0
+    for _, packet in records_of(capture.read_bytes()):
         if packet[9] != 17:
             continue  # a note
         now = now + 1 if int.from_bytes(packet[20:22], "big") == at[1] else 0

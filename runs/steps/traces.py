@@ -8,9 +8,8 @@ import struct
 import subprocess
 
 import suite0
-from common import PATIENCE, ROOT, comes_in, wants
-from sealing import (HEAD_TITLE, IMAGE, KEYS, METER_TITLE, MISSING, OTHER_KEYS, activated, brings, free_address, head_keys, refused,
-                     starts)
+from common import PATIENCE, ROOT, comes_in, free_address, wants
+from sealing import HEAD_TITLE, IMAGE, KEYS, METER_TITLE, MISSING, OTHER_KEYS, activated, brings, head_keys, refused, starts
 
 HEAD_AT, METER_AT = ("10.0.0.7", 4058), ("10.0.1.1", 4059)
 # What a capture begins with: nanoseconds, version 2.4, raw IP.
