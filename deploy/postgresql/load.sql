@@ -2,7 +2,8 @@
 --
 --     dlmsfw status --book head.book --report csv | psql fleet -f load.sql
 --
--- A row that ended never changes again, so a report that is older than what is there changes nothing of it.
+-- Its campaigns are loaded before (load_campaigns.sql): a row of another one, as of one that was opened in between, is refused, and all of the
+-- report, until that is there. A row that ended never changes again, so a report that is older than what is there changes nothing of it.
 \set ON_ERROR_STOP on
 begin;
 create temporary table reported (head bigint, campaign bigint, meter bigint, state text, opened bigint, ended bigint, reason text)

@@ -1,7 +1,7 @@
 -- The fleet of a utility: which meter is where, which shard leads it, what was offered to it, and what became of that.
 --
--- The lists of head ends are made of it, and the rows of their books are put back into it (load.sql), and what they told when
--- (load_events.sql). It decides nothing: what a row is, the book says. PostgreSQL 15.
+-- The lists of head ends are made of it, and what their books have is put back into it, campaigns (load_campaigns.sql) and then their rows
+-- (load.sql), and what they told when (load_events.sql). It decides nothing: what a row is, the book says. PostgreSQL 15.
 
 -- A head end: its number is in each record of its book, and stands on one book alone.
 create table shards (
@@ -31,8 +31,8 @@ create table images (
     file text not null
 );
 
--- An opening of a shard: `head --open SERIAL` with an image under a release, older bytes perhaps under a higher one. Its campaigns have up to
--- 256 meters each, and serial numbers from SERIAL on.
+-- An opening of a shard: `head --open SERIAL` with an image under a release, older bytes perhaps under a higher one. Its campaigns are those from
+-- SERIAL on that offer this image under this release, as `head` takes them. They may stand above the SERIAL of a later opening, which has others.
 create table openings (
     shard bigint not null references shards,
     serial bigint not null check (serial between 1 and 4294967295),
@@ -42,9 +42,22 @@ create table openings (
     primary key (shard, serial)
 );
 
+-- The campaigns of all books, and what each offers, which never changes. Nor does its place among those of its book, in the order in which they
+-- were opened. Each report says just this of it: another one is that of another book under this number, and isn't loaded.
+create table campaigns (
+    shard bigint not null references shards,
+    campaign bigint not null,
+    place bigint not null,
+    release bigint not null,
+    digest bytea not null,
+    primary key (shard, campaign),
+    unique (shard, place),
+    unique (shard, campaign, place, release, digest)
+);
+
 -- The rows of all books, each as it was read last, or as it was first read once it had ended.
 create table results (
-    shard bigint not null references shards,
+    shard bigint not null,
     campaign bigint not null,
     meter bigint not null references meters,
     state text not null check (state in ('live', 'done', 'failed', 'cancelled')),
@@ -53,7 +66,8 @@ create table results (
     ended_at timestamptz,
     reason text,
     read_at timestamptz not null default now(),
-    primary key (shard, campaign, meter)
+    primary key (shard, campaign, meter),
+    foreign key (shard, campaign) references campaigns
 );
 create index results_of_a_meter on results (meter);
 
@@ -71,15 +85,10 @@ create index events_of_rows on events (shard) where event = 'row';
 create view lists as
     select shard, number, address, wave from meters where down_since is null;
 
--- Each row, with the opening that it is of.
+-- Each row, with what its campaign offers.
 create view offers as
-    select r.shard, o.serial, r.campaign, r.meter, r.state, r.ended_at, o.release, o.digest
-    from results r
-    cross join lateral (
-        select serial, release, digest from openings o
-        where o.shard = r.shard and o.serial <= r.campaign
-        order by serial desc limit 1
-    ) o;
+    select shard, campaign, place, meter, state, ended_at, release, digest
+    from results join campaigns using (shard, campaign);
 
 -- What each meter that is up runs by the books: the image of its last row that is done. A meter without one runs what it was delivered with.
 -- (a meter that changed its shard has rows of two books, and the row of a book of an older release may have no time)
@@ -89,11 +98,12 @@ create view running as
     left join lateral (
         select release, digest from offers f
         where f.meter = m.number and f.state = 'done'
-        order by f.ended_at desc nulls last, f.campaign desc limit 1
+        order by f.ended_at desc nulls last, f.place desc limit 1
     ) d on true
     where m.down_since is null;
 
--- How far each opening is, for the meters that are up. `lacking` are those without a row, as one that was put up later.
+-- How far each opening is, for the meters that are up. One that was offered its image more than once counts by the row that was opened last.
+-- `lacking` are those without a row, as one that was put up later.
 create view progress as
     select o.shard, o.serial, o.release, count(*) as meters,
         count(*) filter (where f.state = 'done') as done,
@@ -103,7 +113,12 @@ create view progress as
         count(*) filter (where f.state is null) as lacking
     from openings o
     join meters m on m.shard = o.shard and m.down_since is null
-    left join offers f on f.shard = o.shard and f.serial = o.serial and f.meter = m.number
+    left join (
+        select distinct on (o.shard, o.serial, f.meter) o.shard, o.serial, f.meter, f.state
+        from openings o
+        join offers f on f.shard = o.shard and f.campaign >= o.serial and (f.release, f.digest) = (o.release, o.digest)
+        order by o.shard, o.serial, f.meter, f.place desc
+    ) f on f.shard = o.shard and f.serial = o.serial and f.meter = m.number
     group by o.shard, o.serial;
 
 -- The newest opening of each shard, if some meter of the shard that is up runs another image by the books. One that got this image under
