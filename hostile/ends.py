@@ -12,6 +12,8 @@ import signal
 import socket
 import subprocess
 import sys
+import tempfile
+import textwrap
 import threading
 import time
 
@@ -44,6 +46,18 @@ def wants(holds, why):
     """Fails a try if something doesn't hold."""
     if not holds:
         raise Failed(why)
+
+
+def is_good(test, *given):
+    """Makes a try in a folder of its own, and prints what came of it."""
+    try:
+        with tempfile.TemporaryDirectory() as folder:
+            test(pathlib.Path(folder), *given)
+    except (Failed, subprocess.SubprocessError, OSError) as why:
+        print(f"{test.__name__}: FAILED: {textwrap.shorten(str(why), 600)}", flush=True)
+        return False
+    print(f"{test.__name__}: ok", flush=True)
+    return True
 
 
 def with_invoke_byte(line, byte):
