@@ -8,7 +8,11 @@ import subprocess
 import tempfile
 from dataclasses import dataclass, field
 
+from ends import PROVED, proved
+
 HOSTILE = pathlib.Path(__file__).resolve().parent
+# The program whose calls are recorded, which is the proved one if the environment has no PROGRAM.
+PROGRAM = pathlib.Path(os.environ.get("PROGRAM", PROVED)).absolute()
 # The calls that a disk may refuse.
 CHANGES = ("make", "write", "size", "sync", "rename", "refused")
 
@@ -106,6 +110,12 @@ def changed(content, changes):
 
 
 # ---- programs whose calls are recorded
+
+
+def build():
+    """Has the proved program proved, if it is that and isn't there or is of other sources."""
+    if "PROGRAM" not in os.environ:
+        proved()
 
 
 def library_of(folder, name):

@@ -17,6 +17,9 @@ import textwrap
 import threading
 import time
 
+ROOT = pathlib.Path(__file__).resolve().parent.parent
+# The proved program.
+PROVED = ROOT / "crates" / "dlmsfw" / "out" / "dlmsfw"
 # The options of the meter that the examples are for, as `answer` has them where none are given.
 SMALL = ["--block-size", "2", "--capacity", "64"]
 # A GET of the status, and one of the name of the running image.
@@ -46,6 +49,12 @@ def wants(holds, why):
     """Fails a try if something doesn't hold."""
     if not holds:
         raise Failed(why)
+
+
+def proved():
+    """The words that start the proved program, which is proved first if it isn't there or is of other sources."""
+    subprocess.run([ROOT / "dlmsfw", "answer"], stdin=subprocess.DEVNULL, stdout=subprocess.DEVNULL, check=True)
+    return [PROVED]
 
 
 def is_good(test, *given):
