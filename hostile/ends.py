@@ -74,6 +74,18 @@ def with_invoke_byte(line, byte):
     return line[:20] + byte + line[22:]
 
 
+def title(kind, number):
+    """The system title of an end: `H`, a head end, or `M`, a meter."""
+    return b"KZB" + kind + number.to_bytes(4, "big")
+
+
+def write_keys(path, text, mode=0o600):
+    """Writes a file of keys, which no one but its owner may read."""
+    path.write_text("")
+    path.chmod(mode)
+    path.write_text(text)
+
+
 class Head:
     """A socket that asks a meter."""
 
