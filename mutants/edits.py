@@ -1,6 +1,7 @@
 """Edits that make a body wrong, and the sources to which they are applied."""
 import os
 import subprocess
+import sys
 
 ROOT = os.path.dirname(os.path.dirname(os.path.realpath(__file__)))
 # The folders in mutants/ whose edits tests see, and runs of the program; each other one has the edits of a crate, which the prover refuses.
@@ -84,6 +85,16 @@ class Edit:
 def listed(folder):
     """The edits of a folder, by file."""
     return sorted(it for it in os.listdir(folder) if it.endswith(".edit")) if os.path.isdir(folder) else []
+
+
+def edits_asked(folder, words):
+    """The edits of a folder of mutants/ that these words name, or all of them."""
+    made = {it.removesuffix(".edit"): f"{ROOT}/mutants/{folder}/{it}" for it in listed(f"{ROOT}/mutants/{folder}")}
+    names = [it.removesuffix(".edit").rpartition("/")[2] for it in words] or list(made)
+    for name in names:
+        if name not in made:
+            sys.exit(f"mutants/{folder}: there is no edit {name}")
+    return [Edit(name, made[name]) for name in names]
 
 
 def sources():
