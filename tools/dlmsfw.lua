@@ -4,7 +4,8 @@
 --   wireshark -X lua_script:tools/dlmsfw.lua CAPTURE
 --
 -- The fields of a datagram are the wrapper's (IEC 62056-4-7), the service's (IEC 62056-5-3), those of class 18 (IEC 62056-6-2), and the
--- parts of an image name. What it says, in the column Info and in the field dlmsfw.says, is what `dlmsfw trace` says of it.
+-- parts of an image name. What it says, in the column Info and in the field dlmsfw.says, is what `dlmsfw trace` says of it: of what
+-- is sealed its counter and its size, as no keys are known here.
 --
 -- Datagrams of port 4059 are taken, and on every port that no other dissector takes those whose wrapper is right. Where one takes it,
 -- as CoAP takes 5683: -o udp.try_heuristic_first:TRUE, or for a single port -d udp.port==PORT,dlmsfw.
@@ -17,12 +18,11 @@ local SERVICES = {
   [0xc4] = "GET.response", [0xc5] = "SET.response", [0xc7] = "ACTION.response",
 }
 
+-- What is both a Data-Access-Result and an Action-Result.
 local RESULTS = {
   [0] = "success", [1] = "hardware-fault", [2] = "temporary-failure", [3] = "read-write-denied", [4] = "object-undefined",
   [9] = "object-class-inconsistent", [11] = "object-unavailable", [12] = "type-unmatched", [13] = "scope-of-access-violated",
-  [14] = "data-block-unavailable", [15] = "long-get-or-read-aborted", [16] = "no-long-get-or-read-in-progress",
-  [17] = "long-set-or-write-aborted", [18] = "no-long-set-or-write-in-progress", [19] = "data-block-number-invalid",
-  [250] = "other-reason",
+  [14] = "data-block-unavailable", [250] = "other-reason",
 }
 
 local CLASSES = { [1] = "Data", [18] = "Image transfer" }
@@ -30,6 +30,8 @@ local CLASSES = { [1] = "Data", [18] = "Image transfer" }
 local METHODS = {
   [1] = "image_transfer_initiate", [2] = "image_block_transfer", [3] = "image_verify", [4] = "image_activate",
 }
+
+local DATA_ATTRIBUTES = { [1] = "logical_name", [2] = "value" }
 
 local ATTRIBUTES = {
   [1] = "logical_name", [2] = "image_block_size", [3] = "image_transferred_blocks_status",
@@ -247,7 +249,8 @@ local function read_descriptor(tree, bytes, is_action)
     instance(3, 1):uint(), instance(4, 1):uint(), instance(5, 1):uint())
   tree:add(fields.class, class_range)
   tree:add(fields.instance, instance, text)
-  local name = (is_action and METHODS or (class == 18 and ATTRIBUTES or { [1] = "logical_name", [2] = "value" }))[range:int()]
+  local names = is_action and { [18] = METHODS } or { [1] = DATA_ATTRIBUTES, [18] = ATTRIBUTES }
+  local name = names[class] and names[class][range:int()]
   local item = tree:add(is_action and fields.method or fields.attribute, range)
   if name then item:append_text(" (" .. name .. ")") end
   local object = OBJECTS[tostring(instance:bytes()):lower()]
@@ -328,6 +331,15 @@ local function wrapper_fault(buffer)
   if size > 8 + MAX_APDU then return "wrapper TooLong" end
 end
 
+-- The invocation counter of what has the form of a sealing (suite 0): a tag, the length of the rest, security control 30, the counter, a
+-- ciphertext and a tag of 12 bytes. Nothing is opened.
+local function sealed_counter(buffer)
+  local bytes = reader(buffer, 9)
+  local is_read, size = pcall(length, bytes)
+  if not is_read or size < 17 or bytes.at + size ~= bytes.last or buffer(bytes.at, 1):uint() ~= 0x30 then return nil end
+  return buffer(bytes.at + 1, 4):uint()
+end
+
 function dlmsfw.dissector(buffer, pinfo, tree)
   local size = buffer:len()
   pinfo.cols.protocol = "dlmsfw"
@@ -339,13 +351,18 @@ function dlmsfw.dissector(buffer, pinfo, tree)
     part:add(fields.source, buffer(2, 2))
     part:add(fields.destination, buffer(4, 2))
     part:add(fields.length, buffer(6, 2))
-    local is_read, said = pcall(says_apdu, part, reader(buffer, 8))
-    if is_read then
-      words = said
-    elseif type(said) == "table" then
-      fault = said.fault
+    local counter = sealed_counter(buffer)
+    if counter then
+      words = string.format("sealed %u unopened (%u bytes)", counter, size)
     else
-      error(said, 0)
+      local is_read, said = pcall(says_apdu, part, reader(buffer, 8))
+      if is_read then
+        words = said
+      elseif type(said) == "table" then
+        fault = said.fault
+      else
+        error(said, 0)
+      end
     end
   end
   words = words or string.format("? (%u bytes), %s", size, fault)
@@ -355,7 +372,8 @@ function dlmsfw.dissector(buffer, pinfo, tree)
 end
 
 local function heuristic(buffer, pinfo, tree)
-  if wrapper_fault(buffer) or buffer:len() < 9 or not SERVICES[buffer(8, 1):uint()] then return false end
+  if wrapper_fault(buffer) or buffer:len() < 9 then return false end
+  if not SERVICES[buffer(8, 1):uint()] and not sealed_counter(buffer) then return false end
   dlmsfw.dissector(buffer, pinfo, tree)
   return true
 end
